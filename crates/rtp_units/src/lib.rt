@@ -9,5 +9,8 @@ mod shared;
 
 pub use blob::Blob;
 pub use memory::OutOfMemory;
-pub use numbers::{extend16, extend32, held_to_time, ticks_to_ns};
-pub use shared::{Address, Mode, SyncInfo};
+pub use numbers::{dlsr, extend16, extend32, held_to_time, ntp_middle, ntp_to_ns, ticks_to_ns};
+pub use shared::{Address, Fid, Mode, RtxLine, SyncInfo};
+
+#[cfg(test)]
+mod tests;
