@@ -1,5 +1,5 @@
 -- Files and sinks in memory.
-use Rattle.std.specs.Prelude.{◌≡◌, ◌<◌, ◌≤◌, ◌+◌, ℕ, Bool, true, List, [], ◌∷◌, length, drop, Option, Some, None, IfSome, IsSome, is_some, option_map, option_and_then, slice_get, bytes_eq, string_bytes, if◌then◌else◌}
+use Rattle.std.specs.Prelude.{◌≡◌, ◌<◌, ◌≤◌, ◌+◌, ℕ, Bool, true, List, [], ◌∷◌, length, drop, Option, Some, None, IfSome, IsSome, is_some, option_map, option_and_then, slice_get, bytes_eq, string_bytes, if◌then◌else◌, min, max}
 use Rattle.rtp_io.specs.Outside.{Disk}
 use Rattle.rtp_io.specs.declared.shelf.Entry.{Entry}
 use Rattle.rtp_io.specs.declared.shelf.Shelf.{Shelf}
@@ -54,9 +54,19 @@ pub record AddsFile (name bytes : List ℕ) (old new : Disk) : Type 0 where
   pub opened : new.opened ≡ old.opened
   pub left : new.left ≡ old.left
 
+-- a length that is held to a step, where there is one
+abbrev pub held_to : Option ℕ → ℕ → ℕ
+held_to None len = len
+held_to (Some step) len = min len (max step 1)
+
 -- the bytes of a tape, while it tells them
 abbrev pub told_of : Tape → Option (List ℕ)
 told_of tape = if tape.lost then None else Some tape.bytes.items
+
+-- A write took so many bytes of a piece of this length: a step of it while the bytes are told, and all of it afterwards.
+abbrev pub IsTaken : Option ℕ → ℕ → ℕ → Option (List ℕ) → Type 0
+IsTaken step len taken None = taken ≡ len
+IsTaken step len taken (Some bytes) = taken ≡ held_to step len
 
 -- Bytes that were told are told exactly while they fit the room.
 pub record TellsWhile (room taken : ℕ) (old new : Option (List ℕ)) : Type 0 where

@@ -9,8 +9,11 @@ mod memory_sink;
 mod outside;
 mod pull;
 mod shelf;
+mod step;
 mod sure;
 mod tape;
+#[cfg(test)]
+mod tests;
 mod write;
 
 pub use host::{HostFiles, HostSink, Stream};

@@ -1,5 +1,5 @@
 //! Files in memory, of which some calls fail.
-ghost use Rattle.std.specs.Prelude.{◌≡◌, ◌<◌, ◌≤◌, ◌+◌, ◌-◌, ◌^◌, ◌++◌, ◌∷◌, ◌||◌, [], ℕ, List, Bool, None, Some, true, false, IfOk, IfSome, OnOk, OnErr, IsTrue, Contains, length, take, min, bytes_eq};
+ghost use Rattle.std.specs.Prelude.{◌≡◌, ◌<◌, ◌≤◌, ◌+◌, ◌-◌, ◌^◌, ◌++◌, ◌∷◌, ◌||◌, ◌⊎◌, [], ℕ, List, Bool, None, Some, true, false, IfOk, IfSome, OnOk, OnErr, IsTrue, Contains, length, take, min, bytes_eq};
 
 use crate::failing::is_to_fail;
 use crate::outside::{Failed, Files};
@@ -18,13 +18,26 @@ pub struct MemoryFiles {
 }
 
 impl Files for MemoryFiles {
-    ghost use Rattle.rtp_io.specs.Objects.{memory_disk, memory_faults};
+    ghost use Rattle.rtp_io.specs.Outside.{SameDisk, IsOpened, IsClosed, Gives, Stays, HasCause};
+    ghost use Rattle.rtp_io.specs.Memory.{held_to};
+    ghost use Rattle.rtp_io.specs.Objects.{memory_disk, memory_faults, memory_step, is_held, failing_calls, call_count, IsNextToFail, CountsCall};
 
     ghost disk = { memory_disk };
 
     ghost faults = { memory_faults };
 
-    fn open_file(&mut self, name: &str) -> Result<(), Failed> {
+    fn open_file(&mut self, name: &str) -> Result<(), Failed>
+        requires countable { memory_faults self.old < 2 ^ 64 - 1 }
+        ensures same { SameDisk (memory_disk self.old) (memory_disk self.new) }
+        ensures opened { OnOk result (IsOpened name.now (memory_disk self.new)) }
+        ensures closed { OnErr result (IsClosed (memory_disk self.new)) }
+        ensures cause { HasCause (memory_faults self.old) (memory_faults self.new) result }
+
+        // It fails exactly where it is to fail or the name isn't there.
+        ensures passes { OnOk result (¬ (IsNextToFail (failing_calls self.old) (call_count self.old)) × (is_held self.old name.now ≡ true)) }
+        ensures fails { OnErr result (IsNextToFail (failing_calls self.old) (call_count self.old) ⊎ (is_held self.old name.now ≡ false)) }
+        ensures counted { CountsCall self.old self.new }
+    {
         if is_to_fail(&self.failing, &mut self.calls) {
             self.shelf.close();
             self.faults += 1;
@@ -38,7 +51,21 @@ impl Files for MemoryFiles {
         }
     }
 
-    fn read(&mut self, buf: &mut [u8]) -> Result<usize, Failed> {
+    fn read(&mut self, buf: &mut [u8]) -> Result<usize, Failed>
+        requires room { 0 < length buf.old }
+        requires countable { memory_faults self.old < 2 ^ 64 - 1 }
+        ensures same { SameDisk (memory_disk self.old) (memory_disk self.new) }
+        ensures bound { IfOk result (λ n. n ≤ length buf.new) }
+        ensures given { IfOk result (λ n. Gives (take n buf.new) (memory_disk self.old) (memory_disk self.new)) }
+        ensures kept { OnErr result (Stays (memory_disk self.old) (memory_disk self.new)) }
+        ensures cause { HasCause (memory_faults self.old) (memory_faults self.new) result }
+
+        // It fails exactly where it is to fail, and gives all that it can within the step.
+        ensures passes { OnOk result (¬ (IsNextToFail (failing_calls self.old) (call_count self.old))) }
+        ensures fails { OnErr result (IsNextToFail (failing_calls self.old) (call_count self.old)) }
+        ensures size { IfOk result (λ n. n ≡ held_to (memory_step self.old) (min (length buf.old) (length (memory_disk self.old).left))) }
+        ensures counted { CountsCall self.old self.new }
+    {
         if is_to_fail(&self.failing, &mut self.calls) {
             self.faults += 1;
             return Err(Failed);

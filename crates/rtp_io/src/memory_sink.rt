@@ -20,8 +20,8 @@ pub struct MemorySink {
 
 impl Sink for MemorySink {
     ghost use Rattle.rtp_io.specs.Outside.{Adds, HasCause};
-    ghost use Rattle.rtp_io.specs.Memory.{TellsWhile};
-    ghost use Rattle.rtp_io.specs.Objects.{memory_written, memory_sink_faults, memory_room, memory_sink_step};
+    ghost use Rattle.rtp_io.specs.Memory.{IsTaken, TellsWhile};
+    ghost use Rattle.rtp_io.specs.Objects.{memory_written, memory_sink_faults, memory_room, memory_sink_step, failing_writes, write_count, IsNextToFail, CountsWrite};
 
     ghost written = { memory_written };
 
@@ -39,7 +39,12 @@ impl Sink for MemorySink {
         // The bytes are told exactly while they fit the room.
         ensures told { IfOk result (λ n. TellsWhile (memory_room self.old) n (memory_written self.old) (memory_written self.new)) }
         ensures kept { OnErr result (memory_written self.new ≡ memory_written self.old) }
-        ensures room { memory_room self.new ≡ memory_room self.old }
+
+        // It fails exactly where it is to fail, and takes all that it can within the step.
+        ensures passes { OnOk result (¬ (IsNextToFail (failing_writes self.old) (write_count self.old))) }
+        ensures fails { OnErr result (IsNextToFail (failing_writes self.old) (write_count self.old)) }
+        ensures taken { IfOk result (λ n. IsTaken (memory_sink_step self.old) (length piece.now) n (memory_written self.new)) }
+        ensures counted { CountsWrite self.old self.new }
     {
         if is_to_fail(&self.failing, &mut self.calls) {
             self.faults += 1;

@@ -2,8 +2,11 @@
 ghost use Rattle.std.specs.Prelude.{◌≡◌, ◌<◌, ◌≤◌, ◌-◌, ◌^◌, ℕ, List, [], Option, IsTrue, length, take, IfOk, OnOk, OnErr};
 ghost use Rattle.rtp_io.specs.Outside.{Disk, SameDisk, IsOpened, IsClosed, Gives, Stays, HasCause, Adds};
 
+use thiserror::Error;
+
 /// A file or a sink failed, and its count of faults rose in that call.
-#[derive(Clone, Copy, Debug, PartialEq, Eq)]
+#[derive(Clone, Copy, Debug, PartialEq, Eq, Drop, Error)]
+#[error("a file or a sink failed")]
 pub struct Failed;
 
 /// Files by name, of which one at a time is open for reading. None is open at first.

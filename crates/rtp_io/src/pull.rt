@@ -7,16 +7,19 @@ use crate::outside::{Failed, Files};
 use rtp_units::OutOfMemory;
 use std::alloc::Global;
 use std::marker::Model;
+use thiserror::Error;
 
 /// The most bytes that can be asked for at once.
 pub const PULL_BYTES: usize = 262_160;
 
 /// Why the bytes that were asked for did not come.
-#[derive(Clone, Copy, Debug, PartialEq, Eq)]
+#[derive(Clone, Copy, Debug, PartialEq, Eq, Drop, Error)]
 pub enum PullFault {
     /// The file ends with so many bytes left, fewer than were asked for.
+    #[error("the file ends with {have} bytes left")]
     End { have: usize },
     /// A read failed, and the files counted it.
+    #[error("a read failed")]
     ReadFault,
 }
 

@@ -1,7 +1,8 @@
 //! Named contents in memory, of which one at a time is open.
-ghost use Rattle.std.specs.Prelude.{◌≡◌, ◌<◌, ◌≤◌, ◌+◌, ◌^◌, ◌||◌, ℕ, List, Bool, true, false, None, IfNone, IfSome, OnOk, OnErr, length, take, drop, vec_len, bytes_eq};
+ghost use Rattle.std.specs.Prelude.{◌≡◌, ◌<◌, ◌≤◌, ◌+◌, ◌^◌, ◌||◌, ℕ, List, Bool, true, false, None, IfNone, IfSome, OnOk, OnErr, length, take, drop, min, vec_len, bytes_eq};
 ghost use Rattle.std.specs.Option.{ForSome};
 
+use crate::step::at_most;
 use rtp_units::OutOfMemory;
 use std::alloc::Global;
 
@@ -26,7 +27,7 @@ pub(crate) struct Shelf {
 
 impl Shelf {
     ghost use Rattle.rtp_io.specs.Outside.{SameDisk, IsOpened, IsClosed, Gives};
-    ghost use Rattle.rtp_io.specs.Memory.{disk_of, find, known, IsPlace, IsBare, AddsFile};
+    ghost use Rattle.rtp_io.specs.Memory.{disk_of, find, known, IsPlace, IsBare, AddsFile, held_to};
 
     /// No files.
     pub fn new(alloc: Global) -> Shelf
@@ -115,7 +116,7 @@ impl Shelf {
         ensures held { known self.new ≡ known self.old }
         ensures gives { (p : List ℕ → Bool) → Gives (take result buf.new) (disk_of p self.old) (disk_of p self.new) }
         ensures step { self.new.step ≡ self.old.step }
-        ensures small { IfSome self.old.step (λ n. 0 < n → result ≤ n) }
+        ensures size { (p : List ℕ → Bool) → result ≡ held_to self.old.step (min (length buf.old) (length (disk_of p self.old).left)) }
     {
         let left = self.left();
         let position = self.position;
@@ -142,17 +143,4 @@ fn moved(position: usize, size: usize) -> usize
     ensures { result ≡ position + size }
 {
     if size == 0 { position } else { position + size }
-}
-
-/// A length that is held to a step, if there is one. A step of 0 counts as 1.
-pub(crate) fn at_most(step: Option<usize>, len: usize) -> usize
-    ensures bound { result ≤ len }
-    ensures some { 0 < len → 0 < result }
-    ensures all { IfNone step (result ≡ len) }
-    ensures small { IfSome step (λ n. 0 < n → result ≤ n) }
-{
-    match step {
-        Some(step) => len.min(step.max(1)),
-        None => len,
-    }
 }

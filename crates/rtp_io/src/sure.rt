@@ -1,5 +1,5 @@
 //! Files and bytes in memory that never fail.
-ghost use Rattle.std.specs.Prelude.{◌≡◌, ◌<◌, ◌≤◌, ◌+◌, ◌-◌, ◌^◌, ◌||◌, [], ℕ, List, None, Some, false, IfOk, OnOk, OnErr, length, take, bytes_eq, unwrap_or};
+ghost use Rattle.std.specs.Prelude.{◌≡◌, ◌<◌, ◌≤◌, ◌+◌, ◌-◌, ◌^◌, ◌||◌, [], ℕ, List, None, Some, false, IfOk, OnOk, OnErr, length, take, min, bytes_eq, unwrap_or};
 
 use crate::outside::{Failed, Files, Sink};
 use crate::shelf::Shelf;
@@ -14,7 +14,9 @@ pub struct SureFiles {
 }
 
 impl Files for SureFiles {
-    ghost use Rattle.rtp_io.specs.Objects.{sure_disk};
+    ghost use Rattle.rtp_io.specs.Outside.{SameDisk, Gives, Stays, HasCause};
+    ghost use Rattle.rtp_io.specs.Memory.{held_to};
+    ghost use Rattle.rtp_io.specs.Objects.{sure_disk, sure_step};
 
     ghost disk = { sure_disk };
 
@@ -28,7 +30,18 @@ impl Files for SureFiles {
         }
     }
 
-    fn read(&mut self, buf: &mut [u8]) -> Result<usize, Failed> {
+    fn read(&mut self, buf: &mut [u8]) -> Result<usize, Failed>
+        requires room { 0 < length buf.old }
+        ensures same { SameDisk (sure_disk self.old) (sure_disk self.new) }
+        ensures bound { IfOk result (λ n. n ≤ length buf.new) }
+        ensures given { IfOk result (λ n. Gives (take n buf.new) (sure_disk self.old) (sure_disk self.new)) }
+        ensures kept { OnErr result (Stays (sure_disk self.old) (sure_disk self.new)) }
+        ensures cause { HasCause 0 0 result }
+
+        // It gives all that it can within the step.
+        ensures size { IfOk result (λ n. n ≡ held_to (sure_step self.old) (min (length buf.old) (length (sure_disk self.old).left))) }
+        ensures step { sure_step self.new ≡ sure_step self.old }
+    {
         Ok(self.shelf.give(buf))
     }
 }
@@ -81,6 +94,7 @@ impl SureFiles {
 #[derive(Drop)]
 pub struct SureSink {
     tape: Tape,
+    ghost whole: { tape.step ≡ None },
 }
 
 impl Sink for SureSink {
@@ -103,6 +117,7 @@ impl Sink for SureSink {
         // The bytes are told exactly while they fit the room.
         ensures told { IfOk result (λ n. TellsWhile (sure_room self.old) n (sure_written self.old) (sure_written self.new)) }
         ensures room { sure_room self.new ≡ sure_room self.old }
+        ensures all { IfOk result (λ n. n ≡ length piece.now) }
     {
         Ok(self.tape.take(piece))
     }

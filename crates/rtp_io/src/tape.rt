@@ -1,7 +1,7 @@
 //! Bytes that are kept while they have room.
 ghost use Rattle.std.specs.Prelude.{◌≡◌, ◌<◌, ◌≤◌, [], None, Some, IfOk, IfSome, length, take, unwrap_or, vec_len, vec_capacity};
 
-use crate::shelf::at_most;
+use crate::step::at_most;
 use rtp_units::OutOfMemory;
 use std::alloc::Global;
 
@@ -19,7 +19,7 @@ pub(crate) struct Tape {
 
 impl Tape {
     ghost use Rattle.rtp_io.specs.Outside.{Adds};
-    ghost use Rattle.rtp_io.specs.Memory.{told_of, TellsWhile};
+    ghost use Rattle.rtp_io.specs.Memory.{told_of, IsTaken, TellsWhile};
 
     pub fn with_room(alloc: Global, room: usize) -> Result<Tape, OutOfMemory>
         ensures told { IfOk result (λ tape. told_of tape ≡ Some []) }
@@ -44,7 +44,7 @@ impl Tape {
         ensures told { TellsWhile self.old.room result (told_of self.old) (told_of self.new) }
         ensures room { self.new.room ≡ self.old.room }
         ensures step { self.new.step ≡ self.old.step }
-        ensures small { IfSome (told_of self.new) (λ _. IfSome self.old.step (λ n. 0 < n → result ≤ n)) }
+        ensures taken { IsTaken self.old.step (length piece.now) result (told_of self.new) }
     {
         if self.lost {
             return piece.len();

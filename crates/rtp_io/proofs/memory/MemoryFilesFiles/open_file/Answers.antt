@@ -5,16 +5,16 @@ pub returns-then-is_to_fail-clause-same : goal.returns-then-is_to_fail-clause-sa
 returns-then-is_to_fail-clause-same c = c.close.ensures.same (λ _. true)
 
 pub returns-then-is_to_fail-clause-closed : goal.returns-then-is_to_fail-clause-closed
-returns-then-is_to_fail-clause-closed c = λ told. c.close.ensures.closed (λ _. true)
+returns-then-is_to_fail-clause-closed c = c.close.ensures.closed (λ _. true)
 
 pub returns-then-open-clause-same : goal.returns-then-open-clause-same
 returns-then-open-clause-same c = c.open.ensures.same (λ _. true)
 
 pub returns-then-open-clause-opened : goal.returns-then-open-clause-opened
-returns-then-open-clause-opened c = λ told. c.open.ensures.opened c.if-open.true (λ _. true)
+returns-then-open-clause-opened c = c.open.ensures.opened c.if-open.true (λ _. true)
 
 pub returns-else-open-clause-same : goal.returns-else-open-clause-same
 returns-else-open-clause-same c = c.open.ensures.same (λ _. true)
 
 pub returns-else-open-clause-closed : goal.returns-else-open-clause-closed
-returns-else-open-clause-closed c = λ told. c.open.ensures.closed c.if-open.false (λ _. true)
+returns-else-open-clause-closed c = c.open.ensures.closed c.if-open.false (λ _. true)
