@@ -1,0 +1,5 @@
+pub mod Outside
+pub mod Pulled
+pub mod Laws
+pub mod Memory
+pub mod Objects

@@ -1,0 +1,97 @@
+//! What no contract says: that the objects work together, that their calls succeed where memory is left,
+//! and that the real files and streams can be used.
+use crate::host::{HostFiles, HostSink, Stream};
+use crate::memory::MemoryFiles;
+use crate::memory_sink::MemorySink;
+use crate::outside::Files;
+use crate::pull::{Pull, PullFault};
+use crate::sure::{SureFiles, SureSink};
+use crate::write::write_piece;
+use std::fs;
+use std::test::Fail;
+
+// A file of five bytes is asked for two bytes and then four. Each call on the files fails once.
+#[test]
+fn pulls(rt: HostRuntime) -> Result<(), Fail> {
+    let alloc = rt.alloc();
+    let read_fault = Err(PullFault::ReadFault);
+    let ended = Err(PullFault::End { have: 3 });
+    let cases = [
+        (9, 0, Ok(b'a'), ended),
+        (1, 0, Ok(b'a'), ended),
+        (9, 2, read_fault, Ok(b'a')),
+        (9, 3, Ok(b'a'), read_fault),
+        (1, 3, read_fault, Ok(b'a')),
+        (1, 7, Ok(b'a'), read_fault),
+        (1, 8, Ok(b'a'), ended),
+    ];
+    for (i, (step, failing, first, second)) in cases.into_iter().enumerate() {
+        assert!(rt; step > 0);
+        let mut files = MemoryFiles::new(alloc)?;
+        files.add(alloc, "five", b"abcde")?;
+        files.set_step(step);
+        files.fail_at(failing)?;
+        files.open_file("five")?;
+        let mut pull = Pull::new(alloc)?;
+        assert_eq!(rt;
+            pull.need(&mut files, 2).map(|bytes| bytes[0]),
+            first,
+            "first at {i}"
+        );
+        assert_eq!(rt;
+            pull.need(&mut files, 4).map(|bytes| bytes[0]),
+            second,
+            "second at {i}"
+        );
+    }
+    Ok(())
+}
+
+#[test]
+fn writes(rt: HostRuntime) -> Result<(), Fail> {
+    let alloc = rt.alloc();
+    let mut sink = MemorySink::with_room(alloc, 6)?;
+    sink.set_step(2);
+    sink.fail_at(3)?;
+    assert!(rt; write_piece(&mut sink, b"abcde").is_err());
+    assert_eq!(rt; sink.bytes(), b"abcd".as_slice());
+    assert!(rt; write_piece(&mut sink, b"ef").is_ok());
+    assert_eq!(rt; sink.bytes(), b"abcdef".as_slice());
+    assert!(rt; write_piece(&mut sink, b"g").is_ok());
+    assert_eq!(rt; sink.bytes().len(), 0);
+
+    let mut sure = SureSink::with_room(alloc, 5)?;
+    assert!(rt; write_piece(&mut sure, b"abcde").is_ok());
+    assert_eq!(rt; sure.bytes(), b"abcde".as_slice());
+    let mut files = SureFiles::new(alloc)?;
+    files.add(alloc, "one", b"abc")?;
+    files.set_step(2);
+    files.open_file("one")?;
+    let mut buf = [0u8; 8];
+    assert_eq!(rt; files.read(&mut buf)?, 2);
+    assert_eq!(rt; files.left(), b"c".as_slice());
+    Ok(())
+}
+
+#[test]
+fn host(rt: HostRuntime) -> Result<(), Fail> {
+    let alloc = rt.alloc();
+    let name = "rtp_io_host_test.tmp";
+    fs::write(&rt, name, b"abcde")?;
+    let mut files = HostFiles::new(&rt);
+    files.open_file(name)?;
+    let mut buf = [0u8; 8];
+    assert_eq!(rt; files.read(&mut buf)?, 5);
+    assert_eq!(rt; buf[4], b'e');
+    assert_eq!(rt; files.read(&mut buf)?, 0);
+    fs::remove_file(&rt, name)?;
+    assert!(rt; files.open_file(name).is_err());
+
+    let mut out = HostSink::new(alloc, &rt, Stream::Output)?;
+    assert!(rt; write_piece(&mut out, b"gathered\n").is_ok());
+    assert!(rt; out.flush().is_ok());
+    let mut err = HostSink::new(alloc, &rt, Stream::Errors)?;
+    assert!(rt; write_piece(&mut err, b"at once\n").is_ok());
+    assert!(rt; err.flush().is_ok());
+    Ok(())
+}
