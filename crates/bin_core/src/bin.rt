@@ -1,0 +1,82 @@
+//! The bin: records in order of time, and wakes between them.
+ghost use Rattle.std.specs.Prelude.{◌≡◌, ◌<◌, ◌≤◌, ◌+◌, ◌^◌};
+ghost use Rattle.jitter_core.specs.Stands.{IsValid};
+ghost use Rattle.bin_core.specs.Stages.{pushes_in};
+
+use crate::stage::{Stage, finish, take_record};
+use jitter_core::Settings;
+use pcap_file::PcapRecord;
+use rtp_units::OutOfMemory;
+use std::alloc::Global;
+use timeline::Lines;
+
+/// The most records of a capture.
+pub const MAX_RECORDS: u64 = 100_000_000;
+
+/// One session with at most one source: the first that sends a packet of the session.
+#[derive(Drop)]
+pub struct Bin {
+    stage: Stage,
+    ghost valid: { IsValid stage.settings },
+    ghost room: { pushes_in stage.lane ≤ stage.records },
+}
+
+impl Bin {
+    ghost use Rattle.bin_core.specs.Words.{records_of, time_of};
+
+    /// A bin before any record.
+    pub fn new(settings: &Settings) -> Bin
+        requires { IsValid settings.now }
+        ensures records { records_of result ≡ 0 }
+        ensures time { time_of result ≡ 0 }
+    {
+        Bin {
+            stage: Stage {
+                settings: *settings,
+                lane: None,
+                records: 0,
+                time: 0,
+            },
+        }
+    }
+
+    /// The number of records so far.
+    pub fn records(&self) -> u64
+        ensures { result ≡ records_of self.now }
+    {
+        self.stage.records
+    }
+
+    /// The greatest time so far, in nanoseconds.
+    pub fn time(&self) -> u64
+        ensures { result ≡ time_of self.now }
+    {
+        self.stage.time
+    }
+
+    /// Takes record number `n`, which comes at `time` nanoseconds: the wakes up to that time are served
+    /// before it. Its lines are added to `lines`.
+    pub fn take_record(
+        &mut self,
+        alloc: Global,
+        n: u64,
+        time: u64,
+        link: u16,
+        rec: &PcapRecord,
+        lines: &mut Lines,
+    ) -> Result<(), OutOfMemory>
+        requires number { n ≡ records_of self.old + 1 }
+        requires few { n ≤ 100000000 }
+        requires onward { time_of self.old ≤ time }
+        requires small { time < 2 ^ 63 }
+        ensures records { records_of self.new ≡ n }
+        ensures time { time_of self.new ≡ time }
+    {
+        take_record(&mut self.stage, alloc, n, time, link, rec, lines)
+    }
+
+    /// Serves the wakes that are left, ends the lane and adds the last line.
+    pub fn finish(&mut self, lines: &mut Lines) -> Result<(), OutOfMemory> {
+        finish(&mut self.stage, lines)
+    }
+}

@@ -1,0 +1,209 @@
+//! One lane: the jitterbuffer of a source.
+ghost use Rattle.std.specs.Prelude.{◌≡◌, ◌<◌, ◌≤◌, ◌^◌, ◌+◌, IfOk, IfSome, Some, OnOk, false};
+ghost use Rattle.jitter_model.specs.Replies.{IsLater, is_idle};
+ghost use Rattle.jitter_core.specs.Words.{now_of, pushes_of};
+
+use crate::front::Source;
+use jitter_core::{Arrival, Buffer, Origin, Packet, Turn, Verdict};
+use rtp_units::OutOfMemory;
+use timeline::{BinLine, Lines, Word};
+
+/// The pusher that stands for the session.
+pub const SESSION: u8 = 0;
+/// The pusher that stands for the script's timed items.
+pub const CONTROL: u8 = 8;
+
+/// What the replies of a lane came to.
+#[derive(Clone, Copy, Debug, Drop)]
+pub struct Counts {
+    pub out: u64,
+    pub lost: u64,
+    pub refused: u64,
+}
+
+/// A lane: its number, its source, its buffer, the time at which it wants a turn, and its counts.
+#[derive(Drop)]
+pub struct Lane {
+    pub number: u8,
+    pub source: Source,
+    pub buffer: Buffer,
+    pub wake: Option<u64>,
+    pub counts: Counts,
+}
+
+/// A packet comes to the lane.
+pub fn take(
+    lane: &mut Lane,
+    time: u64,
+    packet: Packet,
+    lines: &mut Lines,
+) -> Result<(), OutOfMemory>
+    requires time { time < 2 ^ 63 }
+    requires few { pushes_of lane.old.buffer < 2 ^ 31 }
+    ensures count { pushes_of lane.new.buffer ≤ pushes_of lane.old.buffer + 1 }
+{
+    let seq = packet.seq;
+    let arrival = Arrival {
+        pusher: SESSION,
+        k: 0,
+        stamp: time,
+        origin: Origin::Original,
+        packet,
+    };
+    let answer = lane.buffer.push(arrival);
+    if let Verdict::Memory = answer.verdict {
+        return Err(OutOfMemory);
+    }
+    tell_verdict(lane, time, seq, answer.verdict, lines)?;
+    tick(lane, time, lines)
+}
+
+// Adds the line of a refused packet.
+fn tell_verdict(
+    lane: &mut Lane,
+    time: u64,
+    seq: u16,
+    verdict: Verdict,
+    lines: &mut Lines,
+) -> Result<(), OutOfMemory>
+    ensures buffer { lane.new.buffer ≡ lane.old.buffer }
+{
+    match refusal(verdict) {
+        None => Ok(()),
+        Some(word) => {
+            lane.counts.refused = lane.counts.refused.saturating_add(1);
+            lines.push(BinLine::Refuse {
+                time,
+                lane: lane.number,
+                seq,
+                kind: Origin::Original,
+                word,
+            })
+        }
+    }
+}
+
+fn refusal(verdict: Verdict) -> Option<Word> {
+    match verdict {
+        Verdict::Accepted | Verdict::Memory => None,
+        Verdict::Far => Some(Word::Far),
+        Verdict::Late => Some(Word::Late),
+        Verdict::Duplicate => Some(Word::Duplicate),
+        Verdict::Full => Some(Word::Full),
+        Verdict::Ended => Some(Word::Ended),
+    }
+}
+
+/// The lane's clock comes to a time, and the lane takes its turns.
+pub fn tick(lane: &mut Lane, time: u64, lines: &mut Lines) -> Result<(), OutOfMemory>
+    ensures later { OnOk result (IsLater time lane.new.wake) }
+    ensures count { pushes_of lane.new.buffer ≡ pushes_of lane.old.buffer }
+{
+    lane.buffer.clock(time);
+    settle(lane, time, lines)
+}
+
+/// Takes turns until one is idle, and keeps its wake.
+pub fn settle(lane: &mut Lane, time: u64, lines: &mut Lines) -> Result<(), OutOfMemory>
+    ensures later { OnOk result (IsLater (now_of lane.old.buffer) lane.new.wake) }
+    ensures count { pushes_of lane.new.buffer ≡ pushes_of lane.old.buffer }
+{
+    'turns: loop {
+        match lane.buffer.turn() {
+            Turn::Idle { wake } => {
+                lane.wake = wake;
+                return Ok(());
+            }
+            turn => lines.push(reply_line(lane, time, turn))?,
+        }
+    }
+}
+
+// The line of a reply that is not idle.
+fn reply_line(lane: &mut Lane, time: u64, turn: Turn) -> BinLine
+    requires { is_idle turn ≡ false }
+    ensures buffer { lane.new.buffer ≡ lane.old.buffer }
+{
+    match turn {
+        Turn::Packet {
+            number,
+            pts,
+            packet,
+        } => {
+            lane.counts.out = lane.counts.out.saturating_add(1);
+            BinLine::Out {
+                time,
+                lane: lane.number,
+                number,
+                pts,
+                pt: packet.pt,
+                marker: packet.marker,
+                len: packet.payload,
+                bytes: packet.bytes,
+            }
+        }
+        Turn::Lost {
+            number,
+            count,
+            pts,
+            duration,
+        } => {
+            lane.counts.lost = lane.counts.lost.saturating_add(u64::from(count));
+            BinLine::Lost {
+                time,
+                lane: lane.number,
+                number,
+                count,
+                pts,
+                duration,
+            }
+        }
+        Turn::End => BinLine::End {
+            time,
+            lane: lane.number,
+        },
+        Turn::Idle { .. } => unreachable!(),
+    }
+}
+
+/// The lane's wake, where it is not later than a time.
+pub fn due(lane: &Lane, limit: u64) -> Option<u64>
+    ensures wake { IfSome result (λ time. lane.now.wake ≡ Some time) }
+    ensures limit { IfSome result (λ time. time ≤ limit) }
+{
+    match lane.wake {
+        Some(time) if time <= limit => Some(time),
+        _ => None,
+    }
+}
+
+/// Serves the lane's wakes up to a time, and answers the last one, or `before` where there is none.
+pub fn serve(
+    lane: &mut Lane,
+    limit: u64,
+    before: u64,
+    lines: &mut Lines,
+) -> Result<u64, OutOfMemory>
+    ensures count { pushes_of lane.new.buffer ≡ pushes_of lane.old.buffer }
+{
+    let mut last = before;
+    'wakes: loop {
+        match due(lane, limit) {
+            None => return Ok(last),
+            Some(time) => {
+                tick(lane, time, lines)?;
+                last = last.max(time);
+            }
+        }
+    }
+}
+
+/// Ends both pushers, each followed by turns.
+pub fn end(lane: &mut Lane, time: u64, lines: &mut Lines) -> Result<(), OutOfMemory>
+    ensures count { pushes_of lane.new.buffer ≡ pushes_of lane.old.buffer }
+{
+    lane.buffer.end(SESSION);
+    settle(lane, time, lines)?;
+    lane.buffer.end(CONTROL);
+    settle(lane, time, lines)
+}

@@ -1,0 +1,11 @@
+//! The bin: what becomes of a capture's records, on one thread and without a clock of its own. Times
+//! come in as arguments, and lines go out as values.
+#![tactic(auto)]
+
+mod bin;
+mod front;
+mod lane;
+mod stage;
+
+pub use bin::{Bin, MAX_RECORDS};
+pub use timeline::{BinLine, Lines, Word};

@@ -1,0 +1,164 @@
+//! The words of a line, without packet bytes and newline.
+ghost use Rattle.std.specs.Prelude.{Some};
+ghost use Rattle.log_text.specs.Text.{line_words, word_text, kind_text, shape_text, fates_text};
+
+use jitter_model::Origin;
+use std::fmt;
+use timeline::{BinLine, Word};
+
+/// A line's words.
+#[derive(Clone, Copy)]
+pub struct Words<'a>(pub &'a BinLine);
+
+impl fmt::Display for Words<'_> {
+    ghost output = { λ words. Some (line_words words.0.now) };
+
+    fn fmt<W: fmt::Write>(&self, f: &mut fmt::Formatter<W>) -> fmt::Result {
+        match self.0 {
+            BinLine::Skip {
+                time,
+                record,
+                reason,
+            } => {
+                let reason = Spelled(*reason);
+                write!(f, "{time} skip {record} {reason}")
+            }
+            BinLine::Pt {
+                time,
+                session,
+                pt,
+                rate,
+            } => write!(f, "{time} pt {session} {pt} {rate}"),
+            BinLine::Lane {
+                time,
+                lane,
+                session,
+                ssrc,
+            } => { write!(f, "{time} lane {lane} {session} {ssrc:08x}") }
+            BinLine::Refuse {
+                time,
+                lane,
+                seq,
+                kind,
+                word,
+            } => {
+                let kind = Kind(*kind);
+                let word = Spelled(*word);
+                write!(f, "{time} refuse {lane} {seq} {kind} {word}")
+            }
+            BinLine::Out {
+                time,
+                lane,
+                number,
+                pts,
+                pt,
+                marker,
+                len,
+                bytes: _,
+            } => {
+                let shape = Shape {
+                    pt: *pt,
+                    marker: *marker,
+                    len: *len,
+                };
+                write!(f, "{time} out {lane} {number} {pts} {shape}")
+            }
+            BinLine::Lost {
+                time,
+                lane,
+                number,
+                count,
+                pts,
+                duration,
+            } => { write!(f, "{time} lost {lane} {number} {count} {pts} {duration}") }
+            BinLine::End { time, lane } => write!(f, "{time} end {lane}"),
+            BinLine::Done {
+                records,
+                lanes,
+                out,
+                lost,
+                refused,
+            } => {
+                let fates = Fates {
+                    out: *out,
+                    lost: *lost,
+                    refused: *refused,
+                };
+                write!(f, "done {records} {lanes} {fates}")
+            }
+        }
+    }
+}
+
+#[derive(Drop)]
+struct Spelled(Word);
+
+impl fmt::Display for Spelled {
+    ghost output = { λ word. Some (word_text word.0) };
+
+    fn fmt<W: fmt::Write>(&self, f: &mut fmt::Formatter<W>) -> fmt::Result {
+        match self.0 {
+            Word::Unbuilt => write!(f, "unbuilt"),
+            Word::Late => write!(f, "late"),
+            Word::Duplicate => write!(f, "duplicate"),
+            Word::Full => write!(f, "full"),
+            Word::Far => write!(f, "far"),
+            Word::Ended => write!(f, "ended"),
+        }
+    }
+}
+
+#[derive(Drop)]
+struct Kind(Origin);
+
+impl fmt::Display for Kind {
+    ghost output = { λ kind. Some (kind_text kind.0) };
+
+    fn fmt<W: fmt::Write>(&self, f: &mut fmt::Formatter<W>) -> fmt::Result {
+        match self.0 {
+            Origin::Original => write!(f, "o"),
+            Origin::Retransmission => write!(f, "r"),
+        }
+    }
+}
+
+// The type, marker and length of a packet.
+#[derive(Drop)]
+struct Shape {
+    pt: u8,
+    marker: bool,
+    len: u16,
+}
+
+impl fmt::Display for Shape {
+    ghost output = { λ shape. Some (shape_text shape.pt shape.marker shape.len) };
+
+    fn fmt<W: fmt::Write>(&self, f: &mut fmt::Formatter<W>) -> fmt::Result {
+        let pt = self.pt;
+        let len = self.len;
+        if self.marker {
+            write!(f, "{pt} 1 {len}")
+        } else {
+            write!(f, "{pt} 0 {len}")
+        }
+    }
+}
+
+// What became of the packets.
+#[derive(Drop)]
+struct Fates {
+    out: u64,
+    lost: u64,
+    refused: u64,
+}
+
+impl fmt::Display for Fates {
+    ghost output = { λ fates. Some (fates_text fates.out fates.lost fates.refused) };
+
+    fn fmt<W: fmt::Write>(&self, f: &mut fmt::Formatter<W>) -> fmt::Result {
+        let out = self.out;
+        let lost = self.lost;
+        let refused = self.refused;
+        write!(f, "{out} {lost} {refused}")
+    }
+}

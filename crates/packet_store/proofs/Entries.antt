@@ -1,0 +1,29 @@
+-- the finite map of a map's entries
+use Rattle.std.proofs.Common.{ℕ, ◌≡◌, cond, refl, sym, ap, ◌∙◌, List, [], ◌∷◌, Option, None, Some}
+use Rattle.std.specs.Ordering.{nat_cmp}
+use Rattle.std.specs.Cmp.{nat_cmp_total, eq_by_cmp_equiv}
+use Rattle.std.specs.FinMap.{find, get, insert, remove, from_entries, get-from_entries, get-insert, get-remove, same_map, nat_cmp-IsAntisymmetric}
+use Rattle.std.specs.Map.{lookup}
+use Rattle.std.specs.BTreeMap.{is_at}
+
+-- what the entries have at a number
+abbrev pub at : {X : Type 0} → List (ℕ × X) → ℕ → Option X
+at es n = lookup (is_at (nat_cmp n)) es
+
+find_at : {X : Type 0} (es : List (ℕ × X)) (q : ℕ) → find nat_cmp q es ≡ at es q
+find_at [] q = refl
+find_at (e ∷ es) q = ap (cond (is_at (nat_cmp q) e.0) (Some e.1)) (find_at es q)
+
+pub get_at : {X : Type 0} (es : List (ℕ × X)) (q : ℕ) → get (from_entries {R = nat_cmp} es) q ≡ at es q
+get_at es q = get-from_entries nat_cmp_total es q ∙ find_at es q
+
+-- entries that differ at one number make maps that differ there
+pub one_put : {X : Type 0} (es fs : List (ℕ × X)) (k : ℕ) (v : X) → ((q : ℕ) → at fs q ≡ cond (is_at (nat_cmp k) q) (Some v) (at es q)) → from_entries {R = nat_cmp} fs ≡ insert (from_entries es) k v
+one_put es fs k v h = same_map nat_cmp_total nat_cmp-IsAntisymmetric _ _ (λ q.
+    get_at fs q ∙ h q ∙ ap (λ b. cond b (Some v) (at es q)) ((eq_by_cmp_equiv nat_cmp_total).symm k q)
+    ∙ sym (get-insert nat_cmp_total (from_entries es) k v q ∙ ap (cond (is_at (nat_cmp q) k) (Some v)) (get_at es q)))
+
+pub one_taken : {X : Type 0} (es fs : List (ℕ × X)) (k : ℕ) → ((q : ℕ) → at fs q ≡ cond (is_at (nat_cmp k) q) None (at es q)) → from_entries {R = nat_cmp} fs ≡ remove (from_entries es) k
+one_taken es fs k h = same_map nat_cmp_total nat_cmp-IsAntisymmetric _ _ (λ q.
+    get_at fs q ∙ h q ∙ ap (λ b. cond b None (at es q)) ((eq_by_cmp_equiv nat_cmp_total).symm k q)
+    ∙ sym (get-remove nat_cmp_total (from_entries es) k q ∙ ap (cond (is_at (nat_cmp q) k) None) (get_at es q)))

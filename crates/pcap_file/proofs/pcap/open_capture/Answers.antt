@@ -1,0 +1,23 @@
+use Rattle.std.proofs.Common.{sym, ◌∙◌}
+use Rattle.pcap_file.proofs.Opening.{opens_cut, opens_none, opens_bad, opens_good}
+use Rattle.pcap_file.proofs.pcap.open_capture.Goals as goal
+
+pub returns-in-Err-End-clause-after : goal.returns-in-Err-End-clause-after
+returns-in-Err-End-clause-after g c =
+    let after = rw (c.in-Err-End.is, c.in-Err-End.field-0-is) at c.need.follows.holds-at-none in
+    opens_cut c.in-Err-End.field-0-0 c.args.pull.now c.need.follows.lender-at-none _ _ after
+
+pub returns-in-Err-ReadFault-clause-after : goal.returns-in-Err-ReadFault-clause-after
+returns-in-Err-ReadFault-clause-after g c =
+    let after = rw (c.in-Err-ReadFault.is, c.in-Err-ReadFault.field-0-is) at c.need.follows.holds-at-none in
+    opens_none c.args.pull.now c.need.follows.lender-at-none _ _ after
+
+pub returns-then-not-begins-clause-after : goal.returns-then-not-begins-clause-after
+returns-then-not-begins-clause-after g c =
+    let after = rw c.in-Ok.is at c.need.follows.holds-at-none in
+    opens_bad c.in-Ok.bytes.now c.args.pull.now c.need.follows.lender-at-none _ _ c.in-Ok.ensures.length (sym c.is_header-begins.ensures ∙ c.if-not-begins.true) after.0
+
+pub returns-clause-after : goal.returns-clause-after
+returns-clause-after g c =
+    let after = rw c.in-Ok.is at c.need.follows.holds-at-none in
+    opens_good c.in-Ok.bytes.now c.args.pull.now c.need.follows.lender-at-none _ _ c.in-Ok.ensures.length (sym c.is_header-begins.ensures ∙ c.if-not-begins.false) after.0

@@ -1,0 +1,25 @@
+-- The words of a command line.
+use Rattle.std.specs.Prelude.{ℕ, List, [], ◌∷◌, map, codes, Option, Some, None, Bool, true, false, bytes_eq, ◌&&◌, not, if◌then◌else◌, string_bytes, String}
+use Rattle.std.specs.declared.alloc.Global.{Global}
+
+-- a capture and a script to be replayed, with packet bytes or without
+pub record Form : Type 0 where
+  pub hex : Bool
+  pub capture : List ℕ
+  pub script : List ℕ
+
+abbrev pub form_view : Bool → List ℕ → List ℕ → Form
+form_view hex capture script = record { hex = hex; capture = capture; script = script }
+
+abbrev pub texts : List (String Global) → List (List ℕ)
+texts words = map (λ w. string_bytes w) words
+
+-- the command is `replay`, and not both names are standard input
+abbrev pub replay_of : List ℕ → Bool → List ℕ → List ℕ → Option Form
+replay_of command hex capture script =
+    if bytes_eq command (codes "replay") && not (bytes_eq capture (codes "-") && bytes_eq script (codes "-")) then Some (form_view hex capture script) else None
+
+abbrev pub form_of : List (List ℕ) → Option Form
+form_of (command ∷ capture ∷ script ∷ []) = replay_of command false capture script
+form_of (command ∷ option ∷ capture ∷ script ∷ []) = if bytes_eq option (codes "-x") then replay_of command true capture script else None
+form_of words = None

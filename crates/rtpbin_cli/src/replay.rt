@@ -1,0 +1,119 @@
+//! Replaying a capture, record by record.
+ghost use Rattle.std.specs.Prelude.{◌<◌, ◌≤◌, ◌-◌, ◌^◌};
+ghost use Rattle.jitter_core.specs.Stands.{IsValid};
+ghost use Rattle.rtpbin_cli.specs.Outcome.{HasStopCause, HasTellCause, IsOfForm};
+
+use crate::stop::{Stop, stop_of};
+use bin_core::{Bin, BinLine, Lines};
+use jitter_core::Settings;
+use log_text::line as line_text;
+use pcap_file::open_capture;
+use rtp_io::{Failed, Files, Pull, Sink, write_piece};
+use rtp_units::OutOfMemory;
+use std::alloc::Global;
+
+/// Replays the capture in the open file. Each line is one piece.
+pub fn replay_open<F: Files, O: Sink>(
+    alloc: Global,
+    settings: &Settings,
+    hex: bool,
+    files: &mut F,
+    out: &mut O,
+) -> Result<(), Stop>
+    requires valid { IsValid settings.now }
+    requires files { F.faults files.old < 2 ^ 64 - 1 }
+    requires out { O.faults out.old < 2 ^ 64 - 1 }
+    ensures of_form { IsOfForm result }
+    ensures cause { HasStopCause result (F.faults files.old) (F.faults files.new) (O.faults out.old) (O.faults out.new) }
+{
+    let mut pull = match Pull::new(alloc) {
+        Ok(pull) => pull,
+        Err(OutOfMemory) => return Err(Stop::Memory),
+    };
+    let mut pcap = match open_capture(files, &mut pull) {
+        Ok(pcap) => pcap,
+        Err(fault) => return Err(stop_of(fault)),
+    };
+    let mut bin = Bin::new(settings);
+    let mut clock = Clock {
+        first: None,
+        time: 0,
+    };
+    let mut lines = Lines::new(alloc);
+    'records: loop {
+        match pcap.next(alloc, files, &mut pull) {
+            Ok(Some(entry)) => {
+                clock = pass(clock, entry.stamp);
+                let n = bin.records() + 1;
+                let took = bin.take_record(alloc, n, clock.time, 1, &entry, &mut lines);
+                match tell(alloc, took, &mut lines, hex, out) {
+                    Ok(()) => {}
+                    Err(stop) => return Err(stop),
+                }
+            }
+            Ok(None) => {
+                let finished = bin.finish(&mut lines);
+                return tell(alloc, finished, &mut lines, hex, out);
+            }
+            Err(fault) => return Err(stop_of(fault)),
+        }
+    }
+}
+
+// The stamp of the first record, and the greatest time so far: time 0 is that stamp.
+#[derive(Clone, Copy)]
+struct Clock {
+    first: Option<u64>,
+    time: u64,
+}
+
+fn pass(clock: Clock, stamp: u64) -> Clock
+    requires stamp { stamp < 2 ^ 63 }
+    requires time { clock.time < 2 ^ 63 }
+    ensures onward { clock.time ≤ result.time }
+    ensures small { result.time < 2 ^ 63 }
+{
+    let first = clock.first.unwrap_or(stamp);
+    Clock {
+        first: Some(first),
+        time: clock.time.max(stamp.saturating_sub(first)),
+    }
+}
+
+// Writes the lines of a call of the bin and drops them.
+fn tell<O: Sink>(
+    alloc: Global,
+    called: Result<(), OutOfMemory>,
+    lines: &mut Lines,
+    hex: bool,
+    out: &mut O,
+) -> Result<(), Stop>
+    requires { O.faults out.old < 2 ^ 64 - 1 }
+    ensures { HasTellCause result (O.faults out.old) (O.faults out.new) }
+{
+    if called.is_err() {
+        return Err(Stop::Memory);
+    }
+    for line in lines.lines() {
+        match print(alloc, line, hex, out) {
+            Ok(()) => {}
+            Err(stop) => return Err(stop),
+        }
+    }
+    lines.clear();
+    Ok(())
+}
+
+fn print<O: Sink>(alloc: Global, line: &BinLine, hex: bool, out: &mut O) -> Result<(), Stop>
+    requires { O.faults out.old < 2 ^ 64 - 1 }
+    ensures { HasTellCause result (O.faults out.old) (O.faults out.new) }
+{
+    let piece = match line_text(alloc, line, hex) {
+        Ok(piece) => piece,
+        Err(OutOfMemory) => return Err(Stop::Memory),
+    };
+    match write_piece(out, piece.bytes()) {
+        Ok(()) => Ok(()),
+        Err(Failed) => Err(Stop::Write),
+    }
+}

@@ -1,0 +1,177 @@
+//! Worked cases over files and sinks in memory: what is written, and how the run ends.
+use crate::status::Status;
+use crate::tool::run_tool;
+use rtp_io::{MemoryFiles, MemorySink};
+use rtp_units::OutOfMemory;
+use std::alloc::Global;
+use std::test::Fail;
+
+const SCRIPT: &[u8] =
+    b"session 0 5004 5005\npt 0 96 90000\nset latency 100\nset probation 0\nset mode none\n";
+
+const CAPTURE_HEADER: [u8; 24] = [
+    0xd4, 0xc3, 0xb2, 0xa1, 2, 0, 4, 0, 0, 0, 0, 0, 0, 0, 0, 0, 0, 0, 4, 0, 1, 0, 0, 0,
+];
+
+// Ethernet, IPv4 from 10.0.0.1 to 10.0.0.2, UDP from port 40000 to port 5004, for a payload of 16 bytes.
+const FRAME_HEADER: [u8; 42] = [
+    2, 0, 0, 0, 0, 2, 2, 0, 0, 0, 0, 1, 8, 0, 0x45, 0, 0, 44, 0, 0, 0, 0, 64, 17, 0, 0, 10, 0, 0,
+    1, 10, 0, 0, 2, 0x9c, 0x40, 0x13, 0x8c, 0, 24, 0, 0,
+];
+
+// A packet of source 11223344: its sequence number, when it comes in milliseconds, and its timestamp.
+type Sent = (u16, u32, u32);
+
+fn add_record(bytes: &mut Vec<u8>, (seq, ms, timestamp): Sent) -> Result<(), OutOfMemory> {
+    bytes.extend_from_slice(&(ms / 1000).to_le_bytes())?;
+    bytes.extend_from_slice(&(ms % 1000 * 1000).to_le_bytes())?;
+    bytes.extend_from_slice(&58u32.to_le_bytes())?;
+    bytes.extend_from_slice(&58u32.to_le_bytes())?;
+    bytes.extend_from_slice(&FRAME_HEADER)?;
+    bytes.extend_from_slice(&[0x80, 96])?;
+    bytes.extend_from_slice(&seq.to_be_bytes())?;
+    bytes.extend_from_slice(&timestamp.to_be_bytes())?;
+    bytes.extend_from_slice(&[0x11, 0x22, 0x33, 0x44, 1, 2, 3, 4])?;
+    Ok(())
+}
+
+fn capture_of(alloc: Global, sent: &[Sent]) -> Result<Vec<u8>, OutOfMemory> {
+    let mut bytes = Vec::from_slice(alloc, &CAPTURE_HEADER)?;
+    for packet in sent {
+        add_record(&mut bytes, *packet)?;
+    }
+    Ok(bytes)
+}
+
+// The packets, and what is written for them.
+const CASES: [(&[Sent], &str); 7] = [
+    (
+        &[(1, 0, 0), (2, 20, 1800), (3, 40, 3600)],
+        "100000000 out 0 65537 0 96 0 4\n100000000 out 0 65538 20000000 96 0 4\n100000000 out 0 65539 40000000 96 0 4\n100000000 end 0\ndone 3 1 3 0 0\n",
+    ),
+    (
+        &[(1, 0, 0), (2, 20, 1800), (4, 60, 5400)],
+        "100000000 out 0 65537 0 96 0 4\n100000000 out 0 65538 20000000 96 0 4\n140000000 lost 0 65539 1 40000000 20000000\n140000000 out 0 65540 60000000 96 0 4\n140000000 end 0\ndone 3 1 3 1 0\n",
+    ),
+    (
+        &[(1, 0, 0), (2, 20, 1800), (4, 60, 5400), (3, 140, 3600)],
+        "100000000 out 0 65537 0 96 0 4\n100000000 out 0 65538 20000000 96 0 4\n140000000 lost 0 65539 1 40000000 20000000\n140000000 out 0 65540 60000000 96 0 4\n140000000 refuse 0 3 o late\n140000000 end 0\ndone 4 1 3 1 1\n",
+    ),
+    (
+        &[
+            (65534, 0, 0),
+            (65535, 20, 1800),
+            (0, 40, 3600),
+            (1, 60, 5400),
+        ],
+        "100000000 out 0 131070 0 96 0 4\n100000000 out 0 131071 20000000 96 0 4\n100000000 out 0 131072 40000000 96 0 4\n100000000 out 0 131073 60000000 96 0 4\n100000000 end 0\ndone 4 1 4 0 0\n",
+    ),
+    (
+        &[(2, 0, 1800), (1, 10, 0)],
+        "100000000 out 0 65537 0 96 0 4\n100000000 out 0 65538 0 96 0 4\n100000000 end 0\ndone 2 1 2 0 0\n",
+    ),
+    (
+        &[(5, 0, 0), (5, 5, 0)],
+        "5000000 refuse 0 5 o duplicate\n100000000 out 0 65541 0 96 0 4\n100000000 end 0\ndone 2 1 1 0 1\n",
+    ),
+    (&[], "done 0 0 0 0 0\n"),
+];
+
+const HEAD: &str = "0 pt 0 96 90000\n0 lane 0 0 11223344\n";
+
+#[test]
+fn replays(rt: HostRuntime) -> Result<(), Fail> {
+    let alloc = rt.alloc();
+    let words = vec![in alloc;
+        String::from_str(alloc, "replay")?,
+        String::from_str(alloc, "c")?,
+        String::from_str(alloc, "s")?,
+    ]?;
+    for (i, (sent, log)) in CASES.into_iter().enumerate() {
+        let mut files = MemoryFiles::new(alloc)?;
+        files.add(alloc, "c", &capture_of(alloc, sent)?)?;
+        files.add(alloc, "s", SCRIPT)?;
+        let mut out = MemorySink::with_room(alloc, 1000)?;
+        let mut err = MemorySink::with_room(alloc, 1000)?;
+        let status = run_tool(alloc, &words, &mut files, &mut out, &mut err);
+        let head = if sent.is_empty() { "" } else { HEAD };
+        let wanted = format!(in alloc; "{head}{log}")?;
+        assert_eq!(rt; status, Status::Done, "status at {i}");
+        assert_eq!(rt; out.bytes(), wanted.as_bytes(), "output at {i}");
+        assert_eq!(rt; err.bytes().len(), 0, "errors at {i}");
+    }
+    Ok(())
+}
+
+const USAGE: &[u8] =
+    b"rtpbin: usage: replay [-x] CAPTURE SCRIPT | dump CAPTURE | rtxsend CAPTURE SCRIPT | gen NUMBER COUNT | live [-x] CAPTURE SCRIPT\n";
+
+// How many words of `replay c s` are given, how many bytes of the capture and the script are there, the
+// call on the files and the write that fail (0 for none), and what comes: the status, how many bytes are
+// written, and the error text. A packet, and what is written for it, in order.
+const ENDS: [(usize, usize, usize, u64, u64, Status, usize, &[u8]); 9] = [
+    (3, 98, 80, 0, 0, Status::Done, 98, b""),
+    (2, 98, 80, 0, 0, Status::Usage, 0, USAGE),
+    (
+        3,
+        98,
+        79,
+        0,
+        0,
+        Status::Script,
+        0,
+        b"rtpbin: script line 5: unbuilt\n",
+    ),
+    (3, 98, 80, 1, 0, Status::Read, 0, b"rtpbin: read failed\n"),
+    (3, 98, 80, 6, 0, Status::Read, 36, b"rtpbin: read failed\n"),
+    (
+        3,
+        23,
+        80,
+        0,
+        0,
+        Status::Capture,
+        0,
+        b"rtpbin: capture at 0: cut-header\n",
+    ),
+    (
+        3,
+        97,
+        80,
+        0,
+        0,
+        Status::Capture,
+        0,
+        b"rtpbin: capture at 24: cut-record\n",
+    ),
+    (3, 98, 80, 0, 2, Status::Write, 16, b""),
+    (3, 98, 80, 0, 6, Status::Done, 98, b""),
+];
+
+#[test]
+fn ends(rt: HostRuntime) -> Result<(), Fail> {
+    let alloc = rt.alloc();
+    let words = vec![in alloc;
+        String::from_str(alloc, "replay")?,
+        String::from_str(alloc, "c")?,
+        String::from_str(alloc, "s")?,
+    ]?;
+    let capture = capture_of(alloc, &[(1, 0, 0)])?;
+    for (i, (count, cut, script, call, write, status, size, text)) in ENDS.into_iter().enumerate() {
+        assert!(rt;
+            count <= 3 && words.len() == 3 && cut <= capture.len() && script <= SCRIPT.len()
+        );
+        let mut files = MemoryFiles::new(alloc)?;
+        files.add(alloc, "c", &capture[..cut])?;
+        files.add(alloc, "s", &SCRIPT[..script])?;
+        files.fail_at(call)?;
+        let mut out = MemorySink::with_room(alloc, 1000)?;
+        out.fail_at(write)?;
+        let mut err = MemorySink::with_room(alloc, 1000)?;
+        let answer = run_tool(alloc, &words[..count], &mut files, &mut out, &mut err);
+        assert_eq!(rt; answer, status, "status at {i}");
+        assert_eq!(rt; out.bytes().len(), size, "output at {i}");
+        assert_eq!(rt; err.bytes(), text, "errors at {i}");
+    }
+    Ok(())
+}

@@ -1,0 +1,145 @@
+//! The top call.
+ghost use Rattle.std.specs.Prelude.{◌≡◌, ◌≢◌, ◌<◌, ◌-◌, ◌^◌, ◌≤◌, None, IsTrue, IfOk, length};
+ghost use Rattle.jitter_core.specs.Stands.{IsValid};
+ghost use Rattle.rtp_io.specs.Outside.{SameDisk};
+ghost use Rattle.rtpbin_cli.specs.Words.{form_of, texts};
+ghost use Rattle.rtpbin_cli.specs.Outcome.{HasFixedErr, HasStatusCause, HasStopCause, IsOfForm, IsUsage, IsUsageOr, MayOpen, Reports, Told};
+
+use crate::replay::replay_open;
+use crate::script::{MAX_SCRIPT, latency_of};
+use crate::status::Status;
+use crate::stop::Stop;
+use crate::words::form_of_words;
+use jitter_core::Settings;
+use rtp_io::{Failed, Files, Sink, read_up_to, write_piece};
+use std::alloc::{AllocError, Global};
+
+/// Does what the words ask for, and answers how it ended. The text of a status other than `Done` and
+/// `Write` goes to `err`.
+pub fn run_tool<F: Files, O: Sink, E: Sink>(
+    alloc: Global,
+    words: &[String],
+    files: &mut F,
+    out: &mut O,
+    err: &mut E,
+) -> Status
+    requires may_open { MayOpen (form_of (texts words.now)) (F.disk files.old) }
+    requires files { F.faults files.old < 2 ^ 64 - 1 }
+    requires out { O.faults out.old < 2 ^ 64 - 1 }
+    requires err { E.faults err.old < 2 ^ 64 - 1 }
+
+    // A read failed exactly at Read, a write exactly at Write; both yield to Memory.
+    ensures cause { HasStatusCause result (F.faults files.old) (F.faults files.new)
+        (O.faults out.old) (O.faults out.new) (E.faults err.old) (E.faults err.new) }
+
+    // Where the status is another than Write, the output took all that it was given.
+    ensures taken { result ≢ Status.Write → O.faults out.new ≡ O.faults out.old }
+
+    // Words of no form, exactly, unless memory or the error text fails.
+    ensures usage { result ≡ Status.Usage → form_of (texts words.now) ≡ None }
+    ensures no_form { form_of (texts words.now) ≡ None → IsUsageOr result }
+
+    // The texts that hang on nothing, and none.
+    ensures fixed { HasFixedErr result (E.written err.old) (E.written err.new) }
+{
+    match run(alloc, words, files, out) {
+        Ok(()) => Status::Done,
+        Err(stop) => report(alloc, stop, err),
+    }
+}
+
+// Writes the text of a stop, and answers the status.
+fn report<E: Sink>(alloc: Global, stop: Stop, err: &mut E) -> Status
+    requires { E.faults err.old < 2 ^ 64 - 1 }
+    ensures { Reports result stop (E.written err.old) (E.written err.new) (E.faults err.old) (E.faults err.new) }
+{
+    match stop {
+        Stop::Write => Status::Write,
+        stop => match stop.to_string(alloc) {
+            Ok(text) => tell(stop.status(), text.as_bytes(), err),
+            Err(AllocError) => tell(Status::Memory, b"rtpbin: out of memory\n", err),
+        },
+    }
+}
+
+fn tell<E: Sink>(status: Status, text: &[u8], err: &mut E) -> Status
+    requires { E.faults err.old < 2 ^ 64 - 1 }
+    ensures { Told result status text.now (E.written err.old) (E.written err.new) (E.faults err.old) (E.faults err.new) }
+{
+    match write_piece(err, text) {
+        Ok(()) => status,
+        Err(Failed) => Status::Write,
+    }
+}
+
+// What the words ask for, up to the text of the end.
+fn run<F: Files, O: Sink>(
+    alloc: Global,
+    words: &[String],
+    files: &mut F,
+    out: &mut O,
+) -> Result<(), Stop>
+    requires may_open { MayOpen (form_of (texts words.now)) (F.disk files.old) }
+    requires files { F.faults files.old < 2 ^ 64 - 1 }
+    requires out { O.faults out.old < 2 ^ 64 - 1 }
+    ensures usage { IsUsage result (form_of (texts words.now)) }
+    ensures cause { HasStopCause result (F.faults files.old) (F.faults files.new) (O.faults out.old) (O.faults out.new) }
+{
+    let form = match form_of_words(words) {
+        Some(form) => form,
+        None => return Err(Stop::Usage),
+    };
+    let settings = match read_script(alloc, files, form.script) {
+        Ok(settings) => settings,
+        Err(stop) => return Err(stop),
+    };
+    match files.open_file(form.capture) {
+        Ok(()) => replay_open(alloc, &settings, form.hex, files, out),
+        Err(Failed) => Err(Stop::Read),
+    }
+}
+
+// Reads the script, up to one byte more than it may have.
+fn read_script<F: Files>(alloc: Global, files: &mut F, name: &str) -> Result<Settings, Stop>
+    requires may_open { IsTrue ((F.disk files.old).may_open name.now) }
+    requires countable { F.faults files.old < 2 ^ 64 - 1 }
+    ensures same { SameDisk (F.disk files.old) (F.disk files.new) }
+    ensures valid { IfOk result IsValid }
+    ensures of_form { IsOfForm result }
+    ensures cause { HasStopCause result (F.faults files.old) (F.faults files.new) 0 0 }
+{
+    match files.open_file(name) {
+        Ok(()) => {}
+        Err(Failed) => return Err(Stop::Read),
+    }
+    let mut text = match zeros(alloc, MAX_SCRIPT + 1) {
+        Ok(text) => text,
+        Err(AllocError) => return Err(Stop::Memory),
+    };
+    match read_up_to(files, &mut text) {
+        Ok(size) => match latency_of(&text[..size]) {
+            Ok(ms) => Ok(settings_with(ms)),
+            Err(fault) => Err(Stop::Script(fault)),
+        },
+        Err(Failed) => Err(Stop::Read),
+    }
+}
+
+// The settings of the one script that is built, with its latency.
+fn settings_with(latency_ms: u64) -> Settings
+    requires { latency_ms ≤ 600000 }
+    ensures { IsValid result }
+{
+    Settings {
+        rate: 90_000,
+        latency: latency_ms * 1_000_000,
+        dropout: 3000,
+        misorder: 100,
+    }
+}
+
+fn zeros(alloc: Global, size: usize) -> Result<Vec<u8>, AllocError>
+    ensures { IfOk result (λ zeros. length zeros.items ≡ size) }
+{
+    vec![in alloc; 0; size]
+}
