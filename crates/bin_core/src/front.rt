@@ -1,7 +1,7 @@
 //! From a record to a packet for the lane.
 
 use byteorder::{BigEndian, ByteOrder};
-use jitter_model::Packet;
+use first_model::Packet;
 use pcap_file::{Datagram, PcapRecord, datagram};
 use rtp_units::{Address, Blob, OutOfMemory};
 use std::alloc::Global;

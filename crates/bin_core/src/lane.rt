@@ -1,6 +1,6 @@
 //! One lane: the jitterbuffer of a source.
 ghost use Rattle.std.specs.Prelude.{◌≡◌, ◌<◌, ◌≤◌, ◌^◌, ◌+◌, IfOk, IfSome, Some, OnOk, false};
-ghost use Rattle.jitter_model.specs.Replies.{IsLater, is_idle};
+ghost use Rattle.first_model.specs.Replies.{IsLater, is_idle};
 ghost use Rattle.jitter_core.specs.Words.{now_of, pushes_of};
 
 use crate::front::Source;

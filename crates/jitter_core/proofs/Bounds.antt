@@ -5,13 +5,13 @@ use Rattle.std.specs.Option.{ForSome}
 use Rattle.std.proofs.Props.{props}
 use Rattle.std.proofs.Math.Logic.{∥∥₁_elim}
 use Rattle.std.proofs.lemmas.Int.{ints}
-use Rattle.jitter_model.specs.declared.SenderClock.{SenderClock}
-use Rattle.jitter_model.specs.History.{History, next}
-use Rattle.jitter_model.specs.Accepted.{top, least, accepted}
-use Rattle.jitter_model.proofs.Numbered.{AreTops, tops, numbered, length-accepted, pushes_most}
-use Rattle.jitter_model.proofs.Covers.{IsNext, next_le}
-use Rattle.jitter_model.proofs.Window.{IsWindow, window}
-use Rattle.jitter_model.proofs.Clocks.{IsClockAfter, clocks}
+use Rattle.first_model.specs.declared.SenderClock.{SenderClock}
+use Rattle.first_model.specs.History.{History, next}
+use Rattle.first_model.specs.Accepted.{top, least, accepted}
+use Rattle.first_model.proofs.Numbered.{AreTops, tops, numbered, length-accepted, pushes_most}
+use Rattle.first_model.proofs.Covers.{IsNext, next_le}
+use Rattle.first_model.proofs.Window.{IsWindow, window}
+use Rattle.first_model.proofs.Clocks.{IsClockAfter, clocks}
 use Rattle.jitter_core.specs.declared.state.State.{State}
 use Rattle.jitter_core.specs.Steps.{IsBounded, HasRoom}
 use Rattle.jitter_core.proofs.Lasts.{marks_bounded, kept_to, marks_to}

@@ -3,16 +3,16 @@ use Rattle.std.proofs.Common.{◌≡◌, ◌<◌, false, ◌∷◌, sym, ◌∙�
 use Rattle.std.specs.Prelude.{unwrap_or}
 use Rattle.std.proofs.Props.{props}
 use Rattle.std.proofs.Math.Logic.{∥∥₁_elim}
-use Rattle.jitter_model.specs.declared.Turn.{Turn}
-use Rattle.jitter_model.specs.declared.Turn.TheVariants.{End}
-use Rattle.jitter_model.specs.History.{Turned, History, next, end_told}
-use Rattle.jitter_model.specs.Accepted.{top, least, accepted}
-use Rattle.jitter_model.specs.Replies.{is_idle, sight, turn}
-use Rattle.jitter_model.proofs.Covers.{Covers, covers}
+use Rattle.first_model.specs.declared.Turn.{Turn}
+use Rattle.first_model.specs.declared.Turn.TheVariants.{End}
+use Rattle.first_model.specs.History.{Turned, History, next, end_told}
+use Rattle.first_model.specs.Accepted.{top, least, accepted}
+use Rattle.first_model.specs.Replies.{is_idle, sight, turn}
+use Rattle.first_model.proofs.Covers.{Covers, covers}
 use Rattle.jitter_core.specs.declared.state.State.{State}
 use Rattle.jitter_core.specs.Stands.{StandsFor, IsReached}
 use Rattle.jitter_core.specs.Turns.{state_left, state_turn}
-use Rattle.jitter_model.proofs.Falling.{by_once, left_less}
+use Rattle.first_model.proofs.Falling.{by_once, left_less}
 use Rattle.jitter_core.proofs.Given.{turn_is}
 
 -- a turn that isn't idle leaves fewer

@@ -2,17 +2,17 @@
 use Rattle.std.proofs.Common.{ℕ, zero, suc, ◌≡◌, ◌+◌, ◌-◌, ◌≤◌, Bool, true, false, ◌||◌, ◌&&◌, not, refl, ap, ◌∙◌, List, [], ◌∷◌, Option, None, Some, arith}
 use Rattle.std.specs.Prelude.{⊤, is_some, unwrap_or, nat_lt, nat_le, if◌then◌else◌}
 use Rattle.std.proofs.lemmas.Grind.{common_steps}
-use Rattle.jitter_model.specs.declared.Settings.{Settings}
-use Rattle.jitter_model.specs.declared.Held.{Held}
-use Rattle.jitter_model.specs.declared.Mark.{Mark}
-use Rattle.jitter_model.specs.declared.Turn.{Turn}
-use Rattle.jitter_model.specs.declared.Turn.TheVariants.{Lost, End, Idle}
-use Rattle.jitter_model.specs.History.{History, next, all_ended}
-use Rattle.jitter_model.specs.Accepted.{Taken, least, accepted, is_height, is_late, is_original}
-use Rattle.jitter_model.specs.Times.{marks, held, pts_after, expected, expected_below, between, first_pts}
-use Rattle.jitter_model.specs.Replies.{Sight, sight, turn, turn_by, turn_unstarted, turn_started, least_from, ends_loss, packet_turn, lost_turn, start_wake, may_start}
-use Rattle.jitter_model.proofs.Numbered.{IsNumbered, numbered}
-use Rattle.jitter_model.proofs.Covers.{least_from_above}
+use Rattle.first_model.specs.declared.Settings.{Settings}
+use Rattle.first_model.specs.declared.Held.{Held}
+use Rattle.first_model.specs.declared.Mark.{Mark}
+use Rattle.first_model.specs.declared.Turn.{Turn}
+use Rattle.first_model.specs.declared.Turn.TheVariants.{Lost, End, Idle}
+use Rattle.first_model.specs.History.{History, next, all_ended}
+use Rattle.first_model.specs.Accepted.{Taken, least, accepted, is_height, is_late, is_original}
+use Rattle.first_model.specs.Times.{marks, held, pts_after, expected, expected_below, between, first_pts}
+use Rattle.first_model.specs.Replies.{Sight, sight, turn, turn_by, turn_unstarted, turn_started, least_from, ends_loss, packet_turn, lost_turn, start_wake, may_start}
+use Rattle.first_model.proofs.Numbered.{IsNumbered, numbered}
+use Rattle.first_model.proofs.Covers.{least_from_above}
 use Rattle.jitter_core.specs.declared.state.State.{State}
 use Rattle.jitter_core.specs.Marks.{kept, from_mark}
 use Rattle.jitter_core.specs.Stands.{StandsFor, Order}

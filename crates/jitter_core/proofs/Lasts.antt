@@ -2,10 +2,10 @@
 use Rattle.std.proofs.Common.{ℕ, zero, suc, ◌≡◌, ◌+◌, ◌≤◌, ◌<◌, ◌^◌, true, false, refl, List, [], ◌∷◌, Option, None, Some, length, get_or, arith, max}
 use Rattle.std.specs.Prelude.{ℤ, pos, negsuc, ⊤, unwrap_or, if◌then◌else◌, nat_le}
 use Rattle.rtp_units.specs.Numbers.{hold}
-use Rattle.jitter_model.specs.declared.Mark.{Mark}
-use Rattle.jitter_model.specs.declared.SenderClock.{SenderClock}
-use Rattle.jitter_model.specs.Accepted.{Taken, top, is_height, heights}
-use Rattle.jitter_model.specs.Times.{marks, pts_after, height_time, other_time, clock, clock_after}
+use Rattle.first_model.specs.declared.Mark.{Mark}
+use Rattle.first_model.specs.declared.SenderClock.{SenderClock}
+use Rattle.first_model.specs.Accepted.{Taken, top, is_height, heights}
+use Rattle.first_model.specs.Times.{marks, pts_after, height_time, other_time, clock, clock_after}
 use Rattle.jitter_core.specs.Marks.{kept, from_mark}
 use Rattle.jitter_core.specs.Steps.{AreMarksBounded}
 use Rattle.jitter_core.specs.Turns.{start_of}

@@ -2,7 +2,7 @@
 use Rattle.std.proofs.Common.{ℕ, suc, ◌≡◌, ◌+◌, ◌-◌, ◌<◌, ◌≤◌, Bool, true, false, ◌||◌, refl, arith}
 use Rattle.std.specs.Prelude.{nat_lt}
 use Rattle.std.proofs.lemmas.Grind.{common_steps}
-use Rattle.jitter_model.specs.Replies.{least_from}
+use Rattle.first_model.specs.Replies.{least_from}
 
 least_from-next : (passes : ℕ → Bool) (n count : ℕ) → passes n ≡ false → least_from passes (n + 1) count ≡ least_from passes n (suc count)
 least_from-next passes n count fails = rw fails refl

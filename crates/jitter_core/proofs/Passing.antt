@@ -2,7 +2,7 @@
 use Rattle.std.proofs.Common.{ℕ, ◌≡◌, refl, ap, ◌∷◌, max}
 use Rattle.std.specs.Prelude.{◌⊎◌}
 use Rattle.std.proofs.Common.{⊎_elim}
-use Rattle.jitter_model.specs.History.{Clock, Ends, History}
+use Rattle.first_model.specs.History.{Clock, Ends, History}
 use Rattle.jitter_core.specs.declared.state.State.{State}
 use Rattle.jitter_core.specs.Stands.{StandsFor}
 use Rattle.jitter_core.specs.Ends.{passed, ended}

@@ -5,16 +5,16 @@ use Rattle.std.proofs.Common.{⊎_elim}
 use Rattle.std.proofs.lemmas.Bool.{eqb-true}
 use Rattle.std.proofs.lemmas.Grind.{common_steps}
 use Rattle.std.specs.FinMap as map
-use Rattle.jitter_model.specs.declared.Arrival.{Arrival}
-use Rattle.jitter_model.specs.declared.Settings.{Settings}
-use Rattle.jitter_model.specs.declared.Held.{Held}
-use Rattle.jitter_model.specs.declared.Verdict.{Verdict}
-use Rattle.jitter_model.specs.declared.Verdict.TheVariants.{Accepted, Far, Late, Duplicate, Full, Ended, Memory}
-use Rattle.jitter_model.specs.History.{Push, History, pushes, next, has_ended, is_out}
-use Rattle.jitter_model.specs.Accepted.{Taken, top, least, accepted, has, heights, is_height, number_from, number_of, is_accepted, is_far, is_late, is_full, first_fit, verdict, told_number}
-use Rattle.jitter_model.specs.Times.{clock, marks, held, find, pts_after}
-use Rattle.jitter_model.specs.Replies.{Run, IsPush, IsInRange}
-use Rattle.jitter_model.proofs.Covers.{out_late, is_some-find}
+use Rattle.first_model.specs.declared.Arrival.{Arrival}
+use Rattle.first_model.specs.declared.Settings.{Settings}
+use Rattle.first_model.specs.declared.Held.{Held}
+use Rattle.first_model.specs.declared.Verdict.{Verdict}
+use Rattle.first_model.specs.declared.Verdict.TheVariants.{Accepted, Far, Late, Duplicate, Full, Ended, Memory}
+use Rattle.first_model.specs.History.{Push, History, pushes, next, has_ended, is_out}
+use Rattle.first_model.specs.Accepted.{Taken, top, least, accepted, has, heights, is_height, number_from, number_of, is_accepted, is_far, is_late, is_full, first_fit, verdict, told_number}
+use Rattle.first_model.specs.Times.{clock, marks, held, find, pts_after}
+use Rattle.first_model.specs.Replies.{Run, IsPush, IsInRange}
+use Rattle.first_model.proofs.Covers.{out_late, is_some-find}
 use Rattle.jitter_core.specs.declared.state.State.{State}
 use Rattle.jitter_core.specs.Marks.{kept, with_mark}
 use Rattle.jitter_core.specs.Steps.{Accepts, Refuses, IsSame, next_clock, next_mark}

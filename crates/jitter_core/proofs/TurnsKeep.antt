@@ -4,20 +4,20 @@ use Rattle.std.specs.Prelude.{unwrap_or, ◌==◌, if◌then◌else◌}
 use Rattle.std.specs.FinMap as map
 use Rattle.std.specs.Cmp.{nat_cmp_total, unsigned_tied}
 use Rattle.std.specs.Ordering.{nat_cmp}
-use Rattle.jitter_model.specs.declared.Settings.{Settings}
-use Rattle.jitter_model.specs.declared.Held.{Held}
-use Rattle.jitter_model.specs.declared.Turn.{Turn}
-use Rattle.jitter_model.specs.declared.Turn.TheVariants.{Packet, Lost, End, Idle}
-use Rattle.jitter_model.specs.History.{Turned, History, next, is_out, covered, is_end, end_told}
-use Rattle.jitter_model.specs.Accepted.{top, least, accepted}
-use Rattle.jitter_model.specs.Times.{marks, held, find}
-use Rattle.jitter_model.specs.Replies.{Run, turn}
-use Rattle.jitter_model.proofs.Covers.{Covers, covers}
+use Rattle.first_model.specs.declared.Settings.{Settings}
+use Rattle.first_model.specs.declared.Held.{Held}
+use Rattle.first_model.specs.declared.Turn.{Turn}
+use Rattle.first_model.specs.declared.Turn.TheVariants.{Packet, Lost, End, Idle}
+use Rattle.first_model.specs.History.{Turned, History, next, is_out, covered, is_end, end_told}
+use Rattle.first_model.specs.Accepted.{top, least, accepted}
+use Rattle.first_model.specs.Times.{marks, held, find}
+use Rattle.first_model.specs.Replies.{Run, turn}
+use Rattle.first_model.proofs.Covers.{Covers, covers}
 use Rattle.jitter_core.specs.declared.state.State.{State}
 use Rattle.jitter_core.specs.Marks.{kept}
 use Rattle.jitter_core.specs.Stands.{StandsFor}
 use Rattle.jitter_core.specs.Turns.{state_turn, TurnDoes}
-use Rattle.jitter_model.specs.Replies.{is_idle}
+use Rattle.first_model.specs.Replies.{is_idle}
 use Rattle.jitter_core.specs.declared.state.Progress.{Progress}
 use Rattle.jitter_core.proofs.Pushes.{same_keeps}
 use Rattle.jitter_core.proofs.Given.{turn_is, kept_kept, IsBelow}

@@ -1,6 +1,6 @@
 -- The heights that a buffer keeps.
 use Rattle.std.specs.Prelude.{ℕ, List, [], ◌∷◌, Option, Some, None, nat_le, if◌then◌else◌}
-use Rattle.jitter_model.specs.declared.Mark.{Mark}
+use Rattle.first_model.specs.declared.Mark.{Mark}
 
 -- a height before these
 abbrev pub from_mark : Option ℕ → Mark → List Mark → List Mark

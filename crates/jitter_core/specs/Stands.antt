@@ -1,15 +1,15 @@
 -- The histories that a buffer's state stands for.
 use Rattle.std.specs.Prelude.{ℕ, ◌≡◌, ◌<◌, ◌≤◌, ◌∷◌, Bool, ◌==◌, Option, Some, None, is_some, if◌then◌else◌}
 use Rattle.std.specs.FinMap as map
-use Rattle.jitter_model.specs.declared.Arrival.{Arrival}
-use Rattle.jitter_model.specs.declared.Packet.{Packet}
-use Rattle.jitter_model.specs.declared.Settings.{Settings}
-use Rattle.jitter_model.specs.declared.Verdict.{Verdict}
-use Rattle.jitter_model.specs.declared.Verdict.TheVariants.{Accepted, Far, Late, Duplicate, Full, Ended, Memory}
-use Rattle.jitter_model.specs.History.{Push, History, now, pushes, next, has_ended, end_told}
-use Rattle.jitter_model.specs.Accepted.{top, least, accepted, heights, number_from, first_fit}
-use Rattle.jitter_model.specs.Times.{clock, marks, held}
-use Rattle.jitter_model.specs.Replies.{Run}
+use Rattle.first_model.specs.declared.Arrival.{Arrival}
+use Rattle.first_model.specs.declared.Packet.{Packet}
+use Rattle.first_model.specs.declared.Settings.{Settings}
+use Rattle.first_model.specs.declared.Verdict.{Verdict}
+use Rattle.first_model.specs.declared.Verdict.TheVariants.{Accepted, Far, Late, Duplicate, Full, Ended, Memory}
+use Rattle.first_model.specs.History.{Push, History, now, pushes, next, has_ended, end_told}
+use Rattle.first_model.specs.Accepted.{top, least, accepted, heights, number_from, first_fit}
+use Rattle.first_model.specs.Times.{clock, marks, held}
+use Rattle.first_model.specs.Replies.{Run}
 use Rattle.jitter_core.specs.declared.state.Progress.{Progress}
 use Rattle.jitter_core.specs.declared.state.State.{State}
 use Rattle.jitter_core.specs.Marks.{kept}

@@ -2,11 +2,11 @@
 use Rattle.std.specs.Prelude.{ℕ, pos, negsuc, ◌+◌, ◌≡◌, ◌<◌, ◌≤◌, ◌≤ℤ◌, ◌^◌, ◌&&◌, Bool, List, max, min, Option, Some, None, unwrap_or, nat_lt, if◌then◌else◌, length, slice_index_or}
 use Rattle.std.specs.Option.{ForSome}
 use Rattle.std.specs.FinMap as map
-use Rattle.jitter_model.specs.declared.Arrival.{Arrival}
-use Rattle.jitter_model.specs.declared.Mark.{Mark}
-use Rattle.jitter_model.specs.declared.SenderClock.{SenderClock}
-use Rattle.jitter_model.specs.Accepted.{is_original}
-use Rattle.jitter_model.specs.Times.{clock_after, height_time, other_time}
+use Rattle.first_model.specs.declared.Arrival.{Arrival}
+use Rattle.first_model.specs.declared.Mark.{Mark}
+use Rattle.first_model.specs.declared.SenderClock.{SenderClock}
+use Rattle.first_model.specs.Accepted.{is_original}
+use Rattle.first_model.specs.Times.{clock_after, height_time, other_time}
 use Rattle.jitter_core.specs.declared.state.Progress.{Progress}
 use Rattle.jitter_core.specs.declared.state.State.{State}
 use Rattle.jitter_core.specs.Marks.{with_mark}

@@ -1,11 +1,11 @@
 -- What a turn goes by and what it does to a state.
 use Rattle.std.specs.Prelude.{ℕ, ◌+◌, ◌≡◌, ◌&&◌, true, List, [], ◌∷◌, Option, Some, None, is_some, unwrap_or}
 use Rattle.std.specs.FinMap as map
-use Rattle.jitter_model.specs.declared.Mark.{Mark}
-use Rattle.jitter_model.specs.declared.Turn.{Turn}
-use Rattle.jitter_model.specs.declared.Turn.TheVariants.{Packet, Lost, End, Idle}
-use Rattle.jitter_model.specs.Times.{expected, expected_below}
-use Rattle.jitter_model.specs.Replies.{Sight, turn_by, left}
+use Rattle.first_model.specs.declared.Mark.{Mark}
+use Rattle.first_model.specs.declared.Turn.{Turn}
+use Rattle.first_model.specs.declared.Turn.TheVariants.{Packet, Lost, End, Idle}
+use Rattle.first_model.specs.Times.{expected, expected_below}
+use Rattle.first_model.specs.Replies.{Sight, turn_by, left}
 use Rattle.jitter_core.specs.declared.state.State.{State}
 use Rattle.jitter_core.specs.Marks.{kept}
 use Rattle.jitter_core.specs.Steps.{IsSame}

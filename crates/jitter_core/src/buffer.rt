@@ -6,8 +6,8 @@ use crate::pushing::push_on;
 use crate::state::{Progress, State};
 use crate::timing::{end_pusher, pass_time};
 use crate::turning::{have_all_ended, turn_on};
-use jitter_model::{Arrival, Pushed, Settings, Turn, Verdict};
-use packet_store::Store;
+use first_model::{Arrival, Pushed, Settings, Turn, Verdict};
+use first_store::Store;
 use std::alloc::Global;
 use std::collections::VecDeque;
 
@@ -20,9 +20,9 @@ pub struct Buffer {
 
 impl Buffer {
     ghost use Rattle.std.specs.Prelude.{◌≡◌, ◌≢◌, ◌<◌, ◌≤◌, ◌^◌, ◌+◌, ◌⊎◌, max, true, false, [], ◌∷◌};
-    ghost use Rattle.jitter_model.specs.History.{Entry, Clock, Ends, Turned, History, pushes, all_ended};
-    ghost use Rattle.jitter_model.specs.Accepted.{is_original, verdict, number_of, told_number};
-    ghost use Rattle.jitter_model.specs.Replies.{turn, is_idle, wake_of, IsLater};
+    ghost use Rattle.first_model.specs.History.{Entry, Clock, Ends, Turned, History, pushes, all_ended};
+    ghost use Rattle.first_model.specs.Accepted.{is_original, verdict, number_of, told_number};
+    ghost use Rattle.first_model.specs.Replies.{turn, is_idle, wake_of, IsLater};
     ghost use Rattle.jitter_core.specs.Stands.{IsValid, after_push, back_of};
     ghost use Rattle.jitter_core.specs.Words.{Stands, settings_of, pushes_of, left_of, now_of};
 
@@ -120,7 +120,7 @@ impl Buffer {
 #[cfg(test)]
 mod tests {
     use super::*;
-    use jitter_model::{Origin, Packet};
+    use first_model::{Origin, Packet};
     use rtp_units::Blob;
     use std::test::Fail;
 

@@ -2,8 +2,8 @@
 use Rattle.std.specs.Prelude.{ℕ, ◌-◌, ◌^◌, List, [], ◌++◌, codes, Bool, true, false}
 use Rattle.std.specs.Fmt.{decimal, digits, format_spec, padded_integral}
 use Rattle.hex.specs.Hex.{encode_lower}
-use Rattle.jitter_model.specs.declared.Origin.{Origin}
-use Rattle.jitter_model.specs.declared.Origin.TheVariants.{Original, Retransmission}
+use Rattle.first_model.specs.declared.Origin.{Origin}
+use Rattle.first_model.specs.declared.Origin.TheVariants.{Original, Retransmission}
 use Rattle.timeline.specs.declared.line.BinLine.{BinLine}
 use Rattle.timeline.specs.declared.line.BinLine.TheVariants.{Skip, Pt, Lane, Refuse, Out, Lost, End, Done}
 use Rattle.timeline.specs.declared.line.Word.{Word}

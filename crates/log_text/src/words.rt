@@ -2,7 +2,7 @@
 ghost use Rattle.std.specs.Prelude.{Some};
 ghost use Rattle.log_text.specs.Text.{line_words, word_text, kind_text, shape_text, fates_text};
 
-use jitter_model::Origin;
+use first_model::Origin;
 use std::fmt;
 use timeline::{BinLine, Word};
 

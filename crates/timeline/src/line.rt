@@ -1,7 +1,7 @@
 //! Lines of a log, before they are text.
 ghost use Rattle.std.specs.Prelude.{◌≡◌, ◌++◌, ◌∷◌, [], OnOk, OnErr};
 
-use jitter_model::Origin;
+use first_model::Origin;
 use rtp_units::{Blob, OutOfMemory};
 use std::alloc::Global;
 use std::marker::Model;

@@ -1,6 +1,6 @@
 use Rattle.std.proofs.Common.{◌≡◌, ◌<◌, ◌≤◌, ◌^◌, drop}
 use Rattle.std.specs.Option.{ForSome}
-use Rattle.jitter_model.specs.Times.{expected}
+use Rattle.first_model.specs.Times.{expected}
 use Rattle.jitter_core.specs.Turns.{expected_after}
 use Rattle.jitter_core.proofs.expecting.expected_time.Given as goal
 

@@ -1,6 +1,6 @@
 use Rattle.std.proofs.Common.{ap, sym, refl, ◌∙◌, Some, ◌+◌, arith, ◌≡◌, ◌<◌, deque_len, get_or}
 use Rattle.std.specs.Prelude.{◌-◌}
-use Rattle.jitter_model.specs.declared.Mark.{Mark}
+use Rattle.first_model.specs.declared.Mark.{Mark}
 use Rattle.jitter_core.proofs.Lasts.{start_of-last}
 use Rattle.jitter_core.proofs.expecting.start_time.Goals as goal
 

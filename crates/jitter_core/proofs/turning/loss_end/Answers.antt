@@ -1,8 +1,8 @@
 use Rattle.std.proofs.Common.{◌+◌, ◌≤◌, arith, sym, ◌∙◌}
 use Rattle.std.specs.Prelude.{is_some}
 use Rattle.std.specs.FinMap as map
-use Rattle.jitter_model.specs.Times.{expected}
-use Rattle.jitter_model.specs.Replies.{ends_loss}
+use Rattle.first_model.specs.Times.{expected}
+use Rattle.first_model.specs.Replies.{ends_loss}
 use Rattle.jitter_core.proofs.Losses.{least_from-skip, is_passed}
 use Rattle.jitter_core.proofs.turning.loss_end.Goals as goal
 

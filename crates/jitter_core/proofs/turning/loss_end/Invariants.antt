@@ -1,7 +1,7 @@
 use Rattle.std.proofs.Common.{◌≡◌, ◌+◌, ◌-◌}
 use Rattle.std.specs.Prelude.{is_some}
 use Rattle.std.specs.FinMap as map
-use Rattle.jitter_model.specs.Replies.{least_from, ends_loss}
+use Rattle.first_model.specs.Replies.{least_from, ends_loss}
 use Rattle.jitter_core.proofs.turning.loss_end.Given as goal
 
 abbrev pub invariant-loop-n : goal.invariant-loop-n

@@ -1,5 +1,5 @@
 use Rattle.std.proofs.Common.{Err}
-use Rattle.jitter_model.specs.declared.Settings.{Settings}
+use Rattle.first_model.specs.declared.Settings.{Settings}
 use Rattle.rtpbin_cli.proofs.Forms.{no_usage, stopped}
 use Rattle.rtpbin_cli.proofs.tool.run.Goals as goal
 

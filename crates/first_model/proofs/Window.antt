@@ -2,14 +2,14 @@
 use Rattle.std.proofs.Common.{ℕ, ◌≡◌, ◌+◌, ◌<◌, Bool, false, sym, [], ◌∷◌, Option, None, Some, arith, max, min}
 use Rattle.std.specs.Prelude.{⊤, unwrap_or}
 use Rattle.std.proofs.lemmas.Grind.{common_steps}
-use Rattle.jitter_model.specs.declared.Settings.{Settings}
-use Rattle.jitter_model.specs.declared.Turn.{Turn}
-use Rattle.jitter_model.specs.declared.Turn.TheVariants.{Packet, Lost, End, Idle}
-use Rattle.jitter_model.specs.declared.Verdict.TheVariants.{Accepted, Far, Late, Duplicate, Full, Ended, Memory}
-use Rattle.jitter_model.specs.History.{Push, Clock, Ends, Turned, History, next, covered, has_ended}
-use Rattle.jitter_model.specs.Accepted.{top, least, accepted, has, is_full, first_fit, number_of}
-use Rattle.jitter_model.specs.Replies.{Run}
-use Rattle.jitter_model.proofs.Covers.{Covers, covers}
+use Rattle.first_model.specs.declared.Settings.{Settings}
+use Rattle.first_model.specs.declared.Turn.{Turn}
+use Rattle.first_model.specs.declared.Turn.TheVariants.{Packet, Lost, End, Idle}
+use Rattle.first_model.specs.declared.Verdict.TheVariants.{Accepted, Far, Late, Duplicate, Full, Ended, Memory}
+use Rattle.first_model.specs.History.{Push, Clock, Ends, Turned, History, next, covered, has_ended}
+use Rattle.first_model.specs.Accepted.{top, least, accepted, has, is_full, first_fit, number_of}
+use Rattle.first_model.specs.Replies.{Run}
+use Rattle.first_model.proofs.Covers.{Covers, covers}
 
 -- whether the greatest number lies in the window
 abbrev pub IsWindow : Option ℕ → Option ℕ → Option ℕ → Type 0

@@ -1,13 +1,13 @@
 -- The accepted packets of a history and their numbers.
 use Rattle.std.specs.Prelude.{ℕ, ◌+◌, ◌-◌, ◌==◌, ◌||◌, ◌&&◌, Bool, true, false, List, [], ◌∷◌, max, min, Option, Some, None, nat_lt, nat_le, unwrap_or, if◌then◌else◌}
-use Rattle.jitter_model.specs.declared.Arrival.{Arrival}
-use Rattle.jitter_model.specs.declared.Settings.{Settings}
-use Rattle.jitter_model.specs.declared.Origin.{Origin}
-use Rattle.jitter_model.specs.declared.Origin.TheVariants.{Original, Retransmission}
-use Rattle.jitter_model.specs.declared.Verdict.{Verdict}
-use Rattle.jitter_model.specs.declared.Verdict.TheVariants.{Accepted, Far, Late, Duplicate, Full, Ended, Memory}
+use Rattle.first_model.specs.declared.Arrival.{Arrival}
+use Rattle.first_model.specs.declared.Settings.{Settings}
+use Rattle.first_model.specs.declared.Origin.{Origin}
+use Rattle.first_model.specs.declared.Origin.TheVariants.{Original, Retransmission}
+use Rattle.first_model.specs.declared.Verdict.{Verdict}
+use Rattle.first_model.specs.declared.Verdict.TheVariants.{Accepted, Far, Late, Duplicate, Full, Ended, Memory}
 use Rattle.rtp_units.specs.Numbers.{ext16}
-use Rattle.jitter_model.specs.History.{Push, Clock, Ends, Turned, History, next, has_ended}
+use Rattle.first_model.specs.History.{Push, Clock, Ends, Turned, History, next, has_ended}
 
 -- an accepted packet with its number
 pub record Taken : Type 0 where

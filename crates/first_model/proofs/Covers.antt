@@ -2,16 +2,16 @@
 use Rattle.std.proofs.Common.{ℕ, zero, suc, ◌≡◌, ◌+◌, ◌-◌, ◌≤◌, ◌<◌, Bool, true, false, ◌||◌, ◌&&◌, not, refl, List, [], ◌∷◌, Option, None, Some, arith, length}
 use Rattle.std.specs.Prelude.{⊤, unwrap_or, is_some, nat_lt, nat_le, ◌==◌, if◌then◌else◌}
 use Rattle.std.proofs.lemmas.Grind.{common_steps}
-use Rattle.jitter_model.specs.declared.Settings.{Settings}
-use Rattle.jitter_model.specs.declared.Held.{Held}
-use Rattle.jitter_model.specs.declared.Mark.{Mark}
-use Rattle.jitter_model.specs.declared.Turn.{Turn}
-use Rattle.jitter_model.specs.declared.Turn.TheVariants.{Packet, Lost, End, Idle}
-use Rattle.jitter_model.specs.History.{Push, Clock, Ends, Turned, History, next, is_out, gives, covered, now, all_ended}
-use Rattle.jitter_model.specs.Accepted.{Taken, top, least, accepted, has, is_late, is_accepted, number_from}
-use Rattle.jitter_model.specs.Times.{find, expected, pts_after}
-use Rattle.jitter_model.specs.Replies.{Run, turn, turn_by, turn_unstarted, turn_started, may_start, packet_turn, lost_turn, least_from, ends_loss, start_wake, Sight, sight}
-use Rattle.jitter_model.proofs.Numbered.{AreTops, tops, numbered}
+use Rattle.first_model.specs.declared.Settings.{Settings}
+use Rattle.first_model.specs.declared.Held.{Held}
+use Rattle.first_model.specs.declared.Mark.{Mark}
+use Rattle.first_model.specs.declared.Turn.{Turn}
+use Rattle.first_model.specs.declared.Turn.TheVariants.{Packet, Lost, End, Idle}
+use Rattle.first_model.specs.History.{Push, Clock, Ends, Turned, History, next, is_out, gives, covered, now, all_ended}
+use Rattle.first_model.specs.Accepted.{Taken, top, least, accepted, has, is_late, is_accepted, number_from}
+use Rattle.first_model.specs.Times.{find, expected, pts_after}
+use Rattle.first_model.specs.Replies.{Run, turn, turn_by, turn_unstarted, turn_started, may_start, packet_turn, lost_turn, least_from, ends_loss, start_wake, Sight, sight}
+use Rattle.first_model.proofs.Numbered.{AreTops, tops, numbered}
 
 -- both branches
 pub split : {A : Type 0} (P : A → Type 0) (b : Bool) (x y : A) → (b ≡ true → P x) → (b ≡ false → P y) → P (if b then x else y)

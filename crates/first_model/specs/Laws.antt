@@ -1,8 +1,8 @@
 -- What holds of every run.
 use Rattle.std.specs.Prelude.{ℕ, ◌≡◌, ⊤, [], ◌∷◌, Option, Some, None}
-use Rattle.jitter_model.specs.declared.Turn.{Turn}
-use Rattle.jitter_model.specs.declared.Turn.TheVariants.{Packet, Lost, End, Idle}
-use Rattle.jitter_model.specs.History.{Push, Clock, Ends, Turned, History, next}
+use Rattle.first_model.specs.declared.Turn.{Turn}
+use Rattle.first_model.specs.declared.Turn.TheVariants.{Packet, Lost, End, Idle}
+use Rattle.first_model.specs.History.{Push, Clock, Ends, Turned, History, next}
 
 -- the numbers that the reply covers begin where the last covered ones ended
 abbrev pub GoesOn : Option ℕ → Turn → Type 0

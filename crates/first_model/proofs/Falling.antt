@@ -2,15 +2,15 @@
 use Rattle.std.proofs.Common.{ℕ, ◌≡◌, ◌+◌, ◌<◌, Bool, true, false, ◌||◌, ◌∷◌, refl, Option, None, Some, arith}
 use Rattle.std.specs.Prelude.{unwrap_or, if◌then◌else◌, not, ◌&&◌, nat_lt, nat_le, is_some}
 use Rattle.std.proofs.lemmas.Grind.{common_steps}
-use Rattle.jitter_model.specs.declared.Settings.{Settings}
-use Rattle.jitter_model.specs.declared.Turn.{Turn}
-use Rattle.jitter_model.specs.declared.Turn.TheVariants.{Packet, Lost, End, Idle}
-use Rattle.jitter_model.specs.declared.Held.{Held}
-use Rattle.jitter_model.specs.History.{Turned, History, next, covered, is_end, end_told, now}
-use Rattle.jitter_model.specs.Accepted.{top, least, accepted}
-use Rattle.jitter_model.specs.Times.{expected}
-use Rattle.jitter_model.specs.Replies.{left, left_in, is_idle, wake_of, IsLater, Run, Sight, sight, turn, turn_by, turn_unstarted, turn_started, packet_turn, may_start}
-use Rattle.jitter_model.proofs.Covers.{Covers, covers, split}
+use Rattle.first_model.specs.declared.Settings.{Settings}
+use Rattle.first_model.specs.declared.Turn.{Turn}
+use Rattle.first_model.specs.declared.Turn.TheVariants.{Packet, Lost, End, Idle}
+use Rattle.first_model.specs.declared.Held.{Held}
+use Rattle.first_model.specs.History.{Turned, History, next, covered, is_end, end_told, now}
+use Rattle.first_model.specs.Accepted.{top, least, accepted}
+use Rattle.first_model.specs.Times.{expected}
+use Rattle.first_model.specs.Replies.{left, left_in, is_idle, wake_of, IsLater, Run, Sight, sight, turn, turn_by, turn_unstarted, turn_started, packet_turn, may_start}
+use Rattle.first_model.proofs.Covers.{Covers, covers, split}
 
 -- End is answered only where it wasn't before
 pub record EndsOnce (told : Bool) (r : Turn) : Type 0 where

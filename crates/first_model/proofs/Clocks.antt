@@ -2,11 +2,11 @@
 use Rattle.std.proofs.Common.{ℕ, suc, ◌+◌, ◌*◌, ◌<◌, true, false, List, [], ◌∷◌, Option, None, Some, length, arith}
 use Rattle.std.specs.Prelude.{⊤, pos, ◌≤ℤ◌, ◌+ℤ◌, if◌then◌else◌}
 use Rattle.std.proofs.lemmas.Int.{ints}
-use Rattle.jitter_model.specs.declared.SenderClock.{SenderClock}
-use Rattle.jitter_model.specs.Accepted.{Taken, is_height, heights}
-use Rattle.jitter_model.specs.Times.{clock, clock_after}
-use Rattle.jitter_model.specs.Replies.{IsInRange}
-use Rattle.jitter_model.proofs.Numbered.{IsNumbered}
+use Rattle.first_model.specs.declared.SenderClock.{SenderClock}
+use Rattle.first_model.specs.Accepted.{Taken, is_height, heights}
+use Rattle.first_model.specs.Times.{clock, clock_after}
+use Rattle.first_model.specs.Replies.{IsInRange}
+use Rattle.first_model.proofs.Numbered.{IsNumbered}
 
 -- a clock after so many packets
 pub record IsClock (count : ℕ) (c : SenderClock) : Type 0 where

@@ -1,14 +1,14 @@
 -- Replies go on where the last ones ended.
 use Rattle.std.proofs.Common.{ℕ, [], ◌∷◌, Option, Some, None}
 use Rattle.std.specs.Prelude.{unwrap_or}
-use Rattle.jitter_model.specs.declared.Settings.{Settings}
-use Rattle.jitter_model.specs.declared.Turn.{Turn}
-use Rattle.jitter_model.specs.declared.Turn.TheVariants.{Packet, Lost, End, Idle}
-use Rattle.jitter_model.specs.History.{Push, Clock, Ends, Turned, History, next}
-use Rattle.jitter_model.specs.Accepted.{top, least, accepted}
-use Rattle.jitter_model.specs.Replies.{Run}
-use Rattle.jitter_model.specs.Laws.{GoesOn, GivesInOrder}
-use Rattle.jitter_model.proofs.Covers.{Covers, covers}
+use Rattle.first_model.specs.declared.Settings.{Settings}
+use Rattle.first_model.specs.declared.Turn.{Turn}
+use Rattle.first_model.specs.declared.Turn.TheVariants.{Packet, Lost, End, Idle}
+use Rattle.first_model.specs.History.{Push, Clock, Ends, Turned, History, next}
+use Rattle.first_model.specs.Accepted.{top, least, accepted}
+use Rattle.first_model.specs.Replies.{Run}
+use Rattle.first_model.specs.Laws.{GoesOn, GivesInOrder}
+use Rattle.first_model.proofs.Covers.{Covers, covers}
 
 goes_on : (t l : ℕ) (o : Option ℕ) (r : Turn) → Covers t l o r → GoesOn o r
 goes_on t l None r c = tt

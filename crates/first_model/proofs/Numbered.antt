@@ -1,10 +1,10 @@
 -- The numbers of the accepted packets of a run.
 use Rattle.std.proofs.Common.{ℕ, suc, ◌≡◌, ◌+◌, ◌*◌, ◌≤◌, ◌<◌, true, false, refl, List, [], ◌∷◌, Option, None, Some, length, arith, max, min}
 use Rattle.std.specs.Prelude.{⊤, unwrap_or, if◌then◌else◌}
-use Rattle.jitter_model.specs.declared.Settings.{Settings}
-use Rattle.jitter_model.specs.History.{Push, Clock, Ends, Turned, History, pushes}
-use Rattle.jitter_model.specs.Accepted.{Taken, top, least, number_from, is_accepted, accepted}
-use Rattle.jitter_model.specs.Replies.{IsInRange, Run}
+use Rattle.first_model.specs.declared.Settings.{Settings}
+use Rattle.first_model.specs.History.{Push, Clock, Ends, Turned, History, pushes}
+use Rattle.first_model.specs.Accepted.{Taken, top, least, number_from, is_accepted, accepted}
+use Rattle.first_model.specs.Replies.{IsInRange, Run}
 
 -- each has the number that its sequence number has after those before it
 abbrev pub IsNumbered : List Taken → Type 0

@@ -1,15 +1,15 @@
 -- The replies to turns, and the runs of the list machine.
 use Rattle.std.specs.Prelude.{ℕ, zero, suc, ◌+◌, ◌-◌, ◌≡◌, ◌<◌, ◌||◌, ◌&&◌, not, Bool, true, false, List, [], ◌∷◌, Option, Some, None, nat_lt, nat_le, is_some, unwrap_or, if◌then◌else◌, ⊤}
-use Rattle.jitter_model.specs.declared.Arrival.{Arrival}
-use Rattle.jitter_model.specs.declared.Settings.{Settings}
-use Rattle.jitter_model.specs.declared.Mark.{Mark}
-use Rattle.jitter_model.specs.declared.Held.{Held}
-use Rattle.jitter_model.specs.declared.Verdict.{Verdict}
-use Rattle.jitter_model.specs.declared.Turn.{Turn}
-use Rattle.jitter_model.specs.declared.Turn.TheVariants.{Packet, Lost, End, Idle}
-use Rattle.jitter_model.specs.History.{Push, Clock, Ends, Turned, History, now, next, all_ended, end_told, pushes}
-use Rattle.jitter_model.specs.Accepted.{is_original, Taken, top, least, has, accepted, verdict, told_number, number_of}
-use Rattle.jitter_model.specs.Times.{marks, held, first_pts, expected}
+use Rattle.first_model.specs.declared.Arrival.{Arrival}
+use Rattle.first_model.specs.declared.Settings.{Settings}
+use Rattle.first_model.specs.declared.Mark.{Mark}
+use Rattle.first_model.specs.declared.Held.{Held}
+use Rattle.first_model.specs.declared.Verdict.{Verdict}
+use Rattle.first_model.specs.declared.Turn.{Turn}
+use Rattle.first_model.specs.declared.Turn.TheVariants.{Packet, Lost, End, Idle}
+use Rattle.first_model.specs.History.{Push, Clock, Ends, Turned, History, now, next, all_ended, end_told, pushes}
+use Rattle.first_model.specs.Accepted.{is_original, Taken, top, least, has, accepted, verdict, told_number, number_of}
+use Rattle.first_model.specs.Times.{marks, held, first_pts, expected}
 
 -- when the first packet may be given out at the latest, where there is one
 abbrev pub start_wake : Settings → List Taken → Option ℕ

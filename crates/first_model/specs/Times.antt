@@ -1,12 +1,12 @@
 -- Presentation times and expected times.
 use Rattle.std.specs.Prelude.{ℕ, ℤ, pos, ◌-◌, ◌+ℤ◌, ◌-ℤ◌, ◌*ℤ◌, int_div, ◌==◌, List, [], ◌∷◌, Option, Some, None, nat_le, if◌then◌else◌}
-use Rattle.jitter_model.specs.declared.Settings.{Settings}
-use Rattle.jitter_model.specs.declared.Mark.{Mark}
-use Rattle.jitter_model.specs.declared.Held.{Held}
-use Rattle.jitter_model.specs.declared.SenderClock.{SenderClock}
+use Rattle.first_model.specs.declared.Settings.{Settings}
+use Rattle.first_model.specs.declared.Mark.{Mark}
+use Rattle.first_model.specs.declared.Held.{Held}
+use Rattle.first_model.specs.declared.SenderClock.{SenderClock}
 use Rattle.rtp_units.specs.Numbers.{ext32, nanoseconds, hold}
-use Rattle.jitter_model.specs.History.{History, is_out}
-use Rattle.jitter_model.specs.Accepted.{Taken, is_height, heights, accepted}
+use Rattle.first_model.specs.History.{History, is_out}
+use Rattle.first_model.specs.Accepted.{Taken, is_height, heights, accepted}
 
 -- the sender's clock after one more height
 abbrev pub clock_after : Option SenderClock → Taken → SenderClock
