@@ -1,42 +1,74 @@
--- What asking for the header says of the capture.
-use Rattle.std.proofs.Common.{◌≡◌, ℕ, ◌<◌, true, false, List, ◌++◌, length, Some, None, IsTrue, refl, ap, ◌∙◌, arith}
+-- What the file header says, test by test, and what asking for it says of the capture.
+use Rattle.std.proofs.Common.{◌≡◌, ℕ, ◌<◌, true, false, List, [], ◌∷◌, ◌++◌, length, Option, Some, None, Result, Ok, Err, IsTrue, refl, sym, ap, ◌∙◌, arith}
+use Rattle.std.specs.Prelude.{nat_eq}
+use Rattle.std.specs.List.{starts_with}
 use Rattle.std.proofs.lemmas.Bool.{lt-ltb, le-ltb}
 use Rattle.std.proofs.lemmas.List.{length-append, take_at, drop_at}
 use Rattle.rtp_io.specs.Outside.{Disk}
 use Rattle.rtp_io.specs.Pulled.{Keeps, Takes, Ends}
 use Rattle.rtp_io.specs.Laws.{all_here}
-use Rattle.pcap_file.specs.declared.fault.CaptureFault.TheVariants.{CutHeader, Unbuilt}
-use Rattle.pcap_file.specs.Capture.{Capture, empty, records_from, is_header, capture_of}
+use Rattle.pcap_file.specs.declared.order.Order.{Order}
+use Rattle.pcap_file.specs.declared.header.Format.{Format}
+use Rattle.pcap_file.specs.declared.fault.CaptureFault.{CaptureFault}
+use Rattle.pcap_file.specs.declared.fault.CaptureFault.TheVariants.{CutHeader, Pcapng, Magic, Version, Link}
+use Rattle.pcap_file.specs.Faults.{OnFault, IsOfBytes}
+use Rattle.pcap_file.specs.Capture.{Capture, empty, order_of, is_version, is_link, is_nano, link_at, format_in, format_of, behind_header, capture_of}
 use Rattle.pcap_file.specs.Reading.{StandsFor, TakesHeader, GaveNoHeader}
+use Rattle.pcap_file.proofs.FaultLemmas.{of_bytes}
+
+-- the first four bytes of a pcapng file
+abbrev pub ng : List ℕ
+ng = 0x0a ∷ 0x0d ∷ 0x0d ∷ 0x0a ∷ []
+
+pub format_ng : (bytes : List ℕ) → starts_with nat_eq bytes ng ≡ true → Err Pcapng ≡ format_of bytes
+unfolding format_of
+format_ng bytes is = rw is refl
+
+pub format_magic : (bytes : List ℕ) → starts_with nat_eq bytes ng ≡ false → order_of bytes ≡ None → Err Magic ≡ format_of bytes
+unfolding format_of
+format_magic bytes other none = rw other (ap (λ (o : Option Order). format_in o bytes) (sym none))
+
+pub format_version : (bytes : List ℕ) (order : Order) → starts_with nat_eq bytes ng ≡ false → order_of bytes ≡ Some order → is_version order bytes ≡ false → Err Version ≡ format_of bytes
+unfolding format_of
+format_version bytes order other some bad = rw other (sym (ap (λ (o : Option Order). format_in o bytes) some ∙ rw bad refl))
+
+pub format_link : (bytes : List ℕ) (order : Order) → starts_with nat_eq bytes ng ≡ false → order_of bytes ≡ Some order → is_version order bytes ≡ true → is_link (link_at order bytes) ≡ false → Err Link ≡ format_of bytes
+unfolding format_of
+format_link bytes order other some version bad = rw other (sym (ap (λ (o : Option Order). format_in o bytes) some ∙ rw (version, bad) refl))
+
+pub format_whole : (bytes : List ℕ) (order : Order) (format : Format) → starts_with nat_eq bytes ng ≡ false → order_of bytes ≡ Some order → is_version order bytes ≡ true → is_link (link_at order bytes) ≡ true
+    → format ≡ record { order = order; nanoseconds = is_nano order bytes; link = link_at order bytes } → Ok format ≡ format_of bytes
+unfolding format_of
+format_whole bytes order format other some version link is = rw other (sym (ap (λ (o : Option Order). format_in o bytes) some ∙ rw (version, link, is) refl))
 
 capture_cut : (bytes : List ℕ) → length bytes < 24 → capture_of bytes ≡ empty (Some CutHeader)
 unfolding capture_of
 capture_cut bytes short = rw (lt-ltb (length bytes) 24 short) refl
 
-capture_bad : (bytes more : List ℕ) → length bytes ≡ 24 → is_header bytes ≡ false → capture_of (bytes ++ more) ≡ empty (Some (Unbuilt 0))
+capture_behind : (bytes more : List ℕ) → length bytes ≡ 24 → capture_of (bytes ++ more) ≡ behind_header (format_of bytes) more
 unfolding capture_of
-capture_bad bytes more len bad = rw (le-ltb (length (bytes ++ more)) 24 (omega (arith, length-append bytes more)), take_at bytes more 24 len, bad) refl
-
-capture_good : (bytes more : List ℕ) → length bytes ≡ 24 → is_header bytes ≡ true → capture_of (bytes ++ more) ≡ records_from 0 24 more
-unfolding capture_of
-capture_good bytes more len good =
-    rw (le-ltb (length (bytes ++ more)) 24 (omega (arith, length-append bytes more)), take_at bytes more 24 len, good, drop_at bytes more 24 len) refl
+capture_behind bytes more len =
+    rw (le-ltb (length (bytes ++ more)) 24 (omega (arith, length-append bytes more)), take_at bytes more 24 len, drop_at bytes more 24 len) refl
 
 pub opens_cut : (have : ℕ) (held rest : List ℕ) (a b : Disk) → Keeps held rest a b × Ends 24 have rest b → IsTrue a.told → capture_of (held ++ a.left) ≡ empty (Some CutHeader)
 opens_cut have held rest a b is t = ap capture_of (all_here 24 have held rest a b is.0 is.1 t) ∙ capture_cut rest (omega (arith, is.1.held, is.1.few))
 
 pub opens_none : (held rest : List ℕ) (a b : Disk) → Keeps held rest a b × (length rest < 24) → GaveNoHeader held rest a b
-opens_none held rest a b is = record { keeps = is.0; none = ap (λ (c : Capture). c.records) (capture_cut rest is.1) }
+opens_none held rest a b is = record { keeps = is.0; short = is.1; none = ap (λ (c : Capture). c.records) (capture_cut rest is.1) }
 
-pub opens_bad : (bytes held rest : List ℕ) (a b : Disk) → length bytes ≡ 24 → is_header bytes ≡ false → Takes bytes held rest a b → IsTrue a.told → capture_of (held ++ a.left) ≡ empty (Some (Unbuilt 0))
-opens_bad bytes held rest a b len bad takes t = ap capture_of (takes.coming t) ∙ capture_bad bytes (rest ++ b.left) len bad
+pub opens_bad : (bytes held rest : List ℕ) (fault : CaptureFault) (a b : Disk) → length bytes ≡ 24 → Err fault ≡ format_of bytes → IsOfBytes fault → Takes bytes held rest a b
+    → OnFault fault (IsTrue a.told → capture_of (held ++ a.left) ≡ empty (Some fault)) (GaveNoHeader held rest a b) ⊥
+opens_bad bytes held rest fault a b len bad of takes =
+    of_bytes fault _ _ _ of (λ t. ap capture_of (takes.coming t) ∙ capture_behind bytes (rest ++ b.left) len ∙ ap (λ (f : Result Format CaptureFault). behind_header f (rest ++ b.left)) (sym bad))
 
-pub opens_good : (bytes held rest : List ℕ) (a b : Disk) → length bytes ≡ 24 → is_header bytes ≡ true → Takes bytes held rest a b → TakesHeader (record { count = 0; offset = 24; fault = None }) held rest a b
+pub opens_good : (bytes held rest : List ℕ) (format : Format) (a b : Disk) → length bytes ≡ 24 → Ok format ≡ format_of bytes → Takes bytes held rest a b
+    → TakesHeader (record { format = format; count = 0; offset = 24; fault = None }) held rest a b
 unfolding StandsFor
-opens_good bytes held rest a b len good takes = record {
+opens_good bytes held rest format a b len good takes = record {
   taken = bytes;
   takes = takes;
   counted = refl;
-  none = refl;
-  stands = λ more. capture_good bytes more len good;
+  placed = sym len;
+  fault = refl;
+  stands = λ more. capture_behind bytes more len ∙ ap (λ (f : Result Format CaptureFault). behind_header f more) (sym good);
 }

@@ -1,12 +1,18 @@
-//! Captures of packets.
+//! Captures of packets in the pcap savefile format, record by record, and the UDP datagrams in their
+//! frames.
 #![tactic(auto)]
 
 mod fault;
-mod layers;
-mod payload;
+mod frame;
+mod header;
+mod network;
+mod order;
 mod pcap;
+mod record;
+mod udp;
 
 pub use fault::CaptureFault;
-pub use layers::datagram;
-pub use payload::{Datagram, Skip};
-pub use pcap::{MAX_LENGTH, MAX_RECORDS, Pcap, PcapRecord, open_capture};
+pub use frame::datagram;
+pub use pcap::{Pcap, open_capture};
+pub use record::{MAX_LENGTH, MAX_RECORDS, PcapRecord};
+pub use udp::{Datagram, Skip};

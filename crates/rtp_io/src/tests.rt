@@ -10,39 +10,37 @@ use crate::write::write_piece;
 use std::fs;
 use std::test::Fail;
 
-// A file of five bytes is asked for two bytes and then four. Each call on the files fails once.
+// A file of five bytes is asked for two bytes and then four. Some call on the files fails.
 #[test]
 fn pulls(rt: HostRuntime) -> Result<(), Fail> {
     let alloc = rt.alloc();
-    let read_fault = Err(PullFault::ReadFault);
-    let ended = Err(PullFault::End { have: 3 });
+    let read_fault = PullFault::ReadFault;
+    let ended = PullFault::End { have: 3 };
     let cases = [
-        (9, 0, Ok(b'a'), ended),
-        (1, 0, Ok(b'a'), ended),
-        (9, 2, read_fault, Ok(b'a')),
-        (9, 3, Ok(b'a'), read_fault),
-        (1, 3, read_fault, Ok(b'a')),
-        (1, 7, Ok(b'a'), read_fault),
-        (1, 8, Ok(b'a'), ended),
+        (9, 0, 2, ended),
+        (1, 0, 2, ended),
+        (9, 2, 0, read_fault),
+        (9, 3, 2, read_fault),
+        (1, 3, 0, read_fault),
+        (1, 7, 2, read_fault),
+        (1, 8, 2, ended),
     ];
-    for (i, (step, failing, first, second)) in cases.into_iter().enumerate() {
+    for (i, (step, failing, taken, fault)) in cases.into_iter().enumerate() {
         assert!(rt; step > 0);
         let mut files = MemoryFiles::new(alloc)?;
         files.add(alloc, "five", b"abcde")?;
         files.set_step(step);
         files.fail_at(failing)?;
-        files.open_file("five")?;
+        assert!(rt; files.open_file("five").is_ok());
         let mut pull = Pull::new(alloc)?;
-        assert_eq!(rt;
-            pull.need(&mut files, 2).map(|bytes| bytes[0]),
-            first,
-            "first at {i}"
-        );
-        assert_eq!(rt;
-            pull.need(&mut files, 4).map(|bytes| bytes[0]),
-            second,
-            "second at {i}"
-        );
+        let answer = match pull.need(&mut files, 2) {
+            Err(fault) => (0, fault),
+            Ok(_) => match pull.need(&mut files, 4) {
+                Err(fault) => (2, fault),
+                Ok(_) => (6, ended),
+            },
+        };
+        assert_eq!(rt; answer, (taken, fault), "at {i}");
     }
     Ok(())
 }
@@ -50,23 +48,26 @@ fn pulls(rt: HostRuntime) -> Result<(), Fail> {
 #[test]
 fn writes(rt: HostRuntime) -> Result<(), Fail> {
     let alloc = rt.alloc();
-    let mut sink = MemorySink::with_room(alloc, 6)?;
-    sink.set_step(2);
-    sink.fail_at(3)?;
-    assert!(rt; write_piece(&mut sink, b"abcde").is_err());
-    assert_eq!(rt; sink.bytes(), b"abcd".as_slice());
-    assert!(rt; write_piece(&mut sink, b"ef").is_ok());
-    assert_eq!(rt; sink.bytes(), b"abcdef".as_slice());
-    assert!(rt; write_piece(&mut sink, b"g").is_ok());
-    assert_eq!(rt; sink.bytes().len(), 0);
+    let mut failing = MemorySink::with_room(alloc, 6)?;
+    failing.set_step(2);
+    failing.fail_at(3)?;
+    assert!(rt; write_piece(&mut failing, b"abcde").is_err());
+    assert_eq!(rt; failing.bytes(), b"abcd".as_slice());
 
-    let mut sure = SureSink::with_room(alloc, 5)?;
-    assert!(rt; write_piece(&mut sure, b"abcde").is_ok());
-    assert_eq!(rt; sure.bytes(), b"abcde".as_slice());
+    // The last piece has no more room.
+    for (room, told) in [(5, 5), (4, 0)] {
+        let mut sink = MemorySink::with_room(alloc, room)?;
+        assert!(rt; write_piece(&mut sink, b"abcde").is_ok());
+        assert_eq!(rt; sink.bytes().len(), told, "room {room}");
+        let mut sure = SureSink::with_room(alloc, room)?;
+        assert!(rt; write_piece(&mut sure, b"abcde").is_ok());
+        assert_eq!(rt; sure.bytes().len(), told, "room {room}");
+    }
+
     let mut files = SureFiles::new(alloc)?;
     files.add(alloc, "one", b"abc")?;
-    files.set_step(2);
     files.open_file("one")?;
+    files.set_step(2);
     let mut buf = [0u8; 8];
     assert_eq!(rt; files.read(&mut buf)?, 2);
     assert_eq!(rt; files.left(), b"c".as_slice());

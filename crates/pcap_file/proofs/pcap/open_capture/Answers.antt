@@ -1,4 +1,3 @@
-use Rattle.std.proofs.Common.{sym, ◌∙◌}
 use Rattle.pcap_file.proofs.Opening.{opens_cut, opens_none, opens_bad, opens_good}
 use Rattle.pcap_file.proofs.pcap.open_capture.Goals as goal
 
@@ -12,12 +11,12 @@ returns-in-Err-ReadFault-clause-after g c =
     let after = rw (c.in-Err-ReadFault.is, c.in-Err-ReadFault.field-0-is) at c.need.follows.holds-at-none in
     opens_none c.args.pull.now c.need.follows.lender-at-none _ _ after
 
-pub returns-then-not-begins-clause-after : goal.returns-then-not-begins-clause-after
-returns-then-not-begins-clause-after g c =
+pub returns-in-Ok-header-clause-after : goal.returns-in-Ok-header-clause-after
+returns-in-Ok-header-clause-after g c =
     let after = rw c.in-Ok.is at c.need.follows.holds-at-none in
-    opens_bad c.in-Ok.bytes.now c.args.pull.now c.need.follows.lender-at-none _ _ c.in-Ok.ensures.length (sym c.is_header-begins.ensures ∙ c.if-not-begins.true) after.0
+    opens_good c.in-Ok.bytes.now c.args.pull.now c.need.follows.lender-at-none c.in-Ok-header.format _ _ c.in-Ok.ensures.length c.in-Ok-header.ensures.format after.0
 
-pub returns-clause-after : goal.returns-clause-after
-returns-clause-after g c =
+pub returns-in-Err-clause-after : goal.returns-in-Err-clause-after
+returns-in-Err-clause-after g c =
     let after = rw c.in-Ok.is at c.need.follows.holds-at-none in
-    opens_good c.in-Ok.bytes.now c.args.pull.now c.need.follows.lender-at-none _ _ c.in-Ok.ensures.length (sym c.is_header-begins.ensures ∙ c.if-not-begins.false) after.0
+    opens_bad c.in-Ok.bytes.now c.args.pull.now c.need.follows.lender-at-none c.in-Err.fault _ _ c.in-Ok.ensures.length c.in-Err.ensures.format c.in-Err.ensures.fault after.0
