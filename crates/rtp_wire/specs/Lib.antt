@@ -1,0 +1,4 @@
+pub mod Network
+pub mod Packet
+pub mod View
+pub mod Written
