@@ -1,0 +1,68 @@
+-- `write` fills an empty place. Assumes `Logic`.
+use Rattle.slot_ring.proofs.Walks.{◌≡◌, refl, sym, ap, subst, ◌∙◌, ℕ, ◌+◌, ◌*◌, ◌<◌, ◌^◌, arith, List, [], ◌∷◌, full_share, ent, id⊢, ftrue, flft, Fn, named, w64, a_type, dcons, dnil, inst_fn, Val, vint, vunit, WpFn, fact, ◌⊑◌, tables, ‵, raw, ◌⊛◌, at_ret, ◌$◌, ◌∵◌, !, qed, move, keep, drop, use1, use2, split, join, rewrite, fsplit, fsplit3, fjoin, fjoin3, feq_i, flt_i, flt_l, suffices, frame, done, whole, sub, look_in, init, load, stop, fld, unit_lit, size_lit, of_opd, bin, assigns_last, first, blocks, exec, returns, enter, alloc_all, pass_all, free_all, look_at, get, through, sets, env, yes, no, shows, cell_at, bounded, layout, param, param_laws, Ptr, in_a_block, MutBor, MutRef, mut_vals, mut_Tells, usize, plain, nothing, opens, closes, peeks, heard, says, Stays, stay_dropped, stay_ref, walk_of, ends_at, Goes-dropped, Goes-ref, Some, None, length, set, get_or, type_size, times_below, one_below, as_written, never, block_ptr, Option, length-set, after, proved_at}
+use Rattle.slot_ring.proofs.Memory.{single, others, place_out, place_in, value_in}
+use Rattle.slot_ring.specs.Ownership.{place_owned, places_owned, block_right, row_owned}
+use Rattle.slot_ring.specs.contracts.slots.Slots.{the_row}
+use Rattle.slot_ring.specs.contracts.slots.Slots.write as f
+use Rattle.slot_ring.proofs.slots.Slots.TheLaws.{lowers}
+use Rattle.slot_ring.proofs.slots.Slots.write.Statement.{statement}
+use Rattle.slot_ring.proofs.slots.Slots.write.Code as code
+
+pub write_spec : {M : Type 1} → statement M
+write_spec 𝓤 𝓛 𝓜 𝓡 wired X W LX LW g d dd met md =
+    let T = f.ended X W g d dd in let c = f.clauses X W g d dd 𝓛 𝓜.mem 𝓡.returns in let 𝓣 = tables 𝓤 𝓛.H 𝓜 𝓡 𝓡.env in
+    let kinds = bounded (a_type ∷ a_type ∷ []) (X, (W, tt)) (dcons d (dcons dd dnil)) in
+    let function : Fn = inst_fn kinds code.function in
+    let R = param 0 X in let S = the_row R (param 1 W) g in
+    let stayed : Stays T.signature.params T.kept = (stay_ref (0 ∷ []) tt (plain (λ _. S)), (stay_dropped (plain (λ _. usize)) yes, (stay_dropped (plain (λ _. R)) no, tt))) in
+    let W' = walk_of 𝓛 T stayed c in
+    proved_at 𝓛 T stayed c 𝓜 𝓡
+    (Goes-ref 𝓛 3 0 tt (plain (λ _. S)), (Goes-dropped 𝓛 3 (plain (λ _. usize)) yes (λ κs x w. refl), (Goes-dropped 𝓛 3 (plain (λ _. R)) no (λ κs x w. refl), tt)))
+    (f.Key.name kinds) function (code.unfolded 𝓤 𝓛.H 𝓜 𝓡 wired (X, (W, tt)) d dd) (λ y are.
+    let κs = y.0.0 in let qs = y.0.1 in let a = y.0.3 in let κ = κs.0 in let q = qs.0 in
+    let self : MutBor S.Denot = a.0 in let b = self.ref_ptr.0 in let o = self.ref_ptr.1 in let h = self.now in let index : ℕ = a.1.0 in let value : X.Denot = a.1.1.0 in
+    let one = single (layout X) y.0.4.1.1.0 (((param_laws 0 X LX).lawful 𝓛).typed value y.0.4.1.1.0 are.1.1.0) in let v = one.0 in let good = one.2 in
+    let Vals = List Val × (List Val × (List Val × Unit {0})) in
+    let vss : Vals = (mut_vals self, (vint w64 index ∷ [], (v ∷ [], tt))) in
+    let same : vss ≡ y.0.4 = λ j. (sym (mut_Tells (named 0) κ S self y.0.4.0 are.0) j, (sym are.1.0.0 j, (sym one.1 j, tt))) in
+    let at : Vals → W'.Ghost = λ us. ((κs, qs, y.0.2, a, us), tt) in
+    subst (λ (us : Vals). ent 𝓤 (W'.pre (at us)) (WpFn 𝓤 𝓛.H 𝓣.C 𝓣.Λ function (W'.args (at us)) (W'.post (at us)))) same (
+    let z = at vss in let token = g.dealloc_token h.lender in let size = type_size R in let lowered = lowers R (param 1 W) g (param_laws 0 X LX) (param_laws 1 W LW) in
+    let Tokens = ‵ (flft κs.1.0 qs.1.0) ⊛ ‵ (flft κs.1.1.0 qs.1.1.0) ⊛ ‵ ftrue in
+    qed 𝓛 (((‵ (flft κ q) ⊛ Tokens) ⊛ ‵ ((MutRef (named 0) κ S).own_val self vss.0) ⊛ ‵ (usize.own_val index vss.1.0) ⊛ ‵ (R.own_val value vss.1.1.0) ⊛ ‵ ftrue)
+    ∷ (raw (fact 𝓤 (κs.1.0 ⊑ X.lives)) ⊛ raw (fact 𝓤 (κs.1.1.0 ⊑ W.lives)) ⊛ raw (fact 𝓤 ((index < length h.places) × (get_or h.places index None ≡ None)))) ∷ []) ∵
+    move ! (1 ∷ []) $ split ! $ drop ! $ split ! $ drop ! $ heard ! _ (λ asked.
+    split ! $ split ! $ move ! (2 ∷ []) $ split ! $ move ! (1 ∷ []) $ split ! $ drop ! $ split ! $ keep ! (2 ∷ 0 ∷ 3 ∷ 4 ∷ []) $
+    -- [self; the value; the token of its lifetime; the other tokens]
+    enter ! _ _ _ _ _ $ alloc_all ! (λ l. pass_all ! refl ((tt, tt), ((tt, record { fits = are.1.0.1 }), (good, tt))) $
+    fsplit3 ! $ move ! (1 ∷ 2 ∷ 4 ∷ []) $ opens ! tt S b o (λ us.
+    move ! (1 ∷ []) $ peeks ! S _ (shows 𝓛 S) h us (λ is. fsplit ! $ move ! (1 ∷ []) $
+    in_a_block ! h.start (λ p. row_owned R token p h.places) (id⊢ 𝓤 (never 𝓤)) (λ bb bo e. fsplit ! $ flt_l ! (λ small. fsplit ! $
+    -- [the places; the right to their block; the fields; the cell of self; the open borrow, in three entries; where self lies; the value; the other tokens]
+    let n = length h.places in let within = asked.0 in
+    let tiny : size < 2 ^ 64 = omega (arith, one_below n size (2 ^ 63) (omega arith) small) in
+    let far : index * size < 2 ^ 64 = omega (arith, times_below index n size (2 ^ 63) (omega arith) small) in
+    let place : ℕ = index * size + bo in
+    let Cell = λ (ws : List Val). ‵ (cell_at full_share S.mir ws b o) in
+    let word = lowered.val_is h us is ∙ ap (λ (p : Ptr). lowered.lowered (record h { start = p }) ∷ []) e in
+    rewrite ! 3 Cell word refl $ first ! $ blocks ! $
+    sets ! (of_opd ! (load ! (through ! refl (fld ! refl (stop !))) (look_in ! 3 (sub ! 0 refl (whole !))))) refl (tt, tt) $
+    sets ! (bin ! (get ! refl) (size_lit ! (record { fits = tiny })) (record { fits = far })) refl (tt, record { fits = far }) $
+    sets ! (bin ! (get ! refl) (get ! refl) tt) refl (tt, tt) $
+    use1 𝓛 (‵ (place_owned R bb place (get_or h.places index None)) ⊛ ‵ (others X LX 𝓛 bb h.places index bo)) (place_out X LX 𝓛 bb h.places index bo place refl within) $ split ! $
+    rewrite ! 0 (λ (p : Option X.Denot). ‵ (place_owned R bb place p)) asked.1 refl $ as_written ! (layout X) bb place $
+    sets ! (of_opd ! (get ! refl)) refl good $ assigns_last ! (of_opd ! (get ! refl)) (through ! refl (stop !)) (init ! 0 refl good) $
+    exec ! 𝓣.C 𝓣.Λ (env function.locals l) (after 1 function.body) (at_ret _ (W'.post z)) $ sets ! (of_opd ! (unit_lit !)) refl (tt, tt) $
+    -- [the value's cell; the other places; the right; ..]
+    move ! (0 ∷ 9 ∷ []) $ use2 𝓛 (‵ (place_owned R bb place (Some value))) (value_in X LX 𝓛 bb value place v) $
+    let after_it : S.Denot = record h { places = set h.places index (Some value) } in let long = sym (length-set h.places index (Some value)) in
+    use2 𝓛 (‵ (places_owned R bb bo after_it.places)) (place_in X LX 𝓛 bb h.places index bo place refl within (Some value)) $
+    rewrite ! 1 (λ (m : ℕ). ‵ (block_right R token (block_ptr bb bo) m)) long refl $ fjoin ! $
+    flt_i ! (length after_it.places * size) (2 ^ 63) (subst (λ m. m * size < 2 ^ 63) long small) $ fjoin ! $
+    rewrite ! 0 (λ (p : Ptr). ‵ (row_owned R token p after_it.places)) (sym e) refl $ rewrite ! 2 Cell (sym word) refl $
+    move ! (1 ∷ 0 ∷ []) $ fjoin ! $ move ! (1 ∷ 0 ∷ []) $ closes ! tt S after_it us b o $
+    returns ! (look_at ! 0 refl) $ free_all ! refl $
+    -- [self, in two entries; the token; where self lies; the other tokens]
+    suffices ! _ (ends_at 𝓛 T stayed c z vunit tt (after_it, (tt, (tt, tt))) (tt, (tt, (tt, tt)))) $ says ! (refl, refl) $
+    move ! (2 ∷ 4 ∷ []) $ join ! $ frame ! $ move ! (2 ∷ 0 ∷ 1 ∷ []) $ fjoin3 ! $ nothing ! $ nothing ! $ fjoin ! $ nothing ! $ fjoin ! $ move ! (1 ∷ 0 ∷ []) $ fjoin ! $ frame ! $
+    feq_i ! (List Val) (vunit ∷ []) (vunit ∷ []) refl $ done !))))))))
