@@ -1,160 +1,117 @@
--- Replies cover numbers in order, from the next one on.
-use Rattle.std.proofs.Common.{ℕ, zero, suc, ◌≡◌, ◌+◌, ◌-◌, ◌≤◌, ◌<◌, Bool, true, false, ◌||◌, ◌&&◌, not, refl, List, [], ◌∷◌, Option, None, Some, arith, length}
-use Rattle.std.specs.Prelude.{⊤, unwrap_or, is_some, nat_lt, nat_le, ◌==◌, if◌then◌else◌}
+-- Replies cover numbers from the lowest one on.
+use Rattle.std.proofs.Common.{ℕ, zero, suc, ◌≡◌, ◌+◌, ◌-◌, ◌≤◌, ◌<◌, Bool, true, false, refl, sym, subst, List, [], ◌∷◌, ◌++◌, Option, None, Some, arith}
+use Rattle.std.specs.Prelude.{⊤, if◌then◌else◌}
 use Rattle.std.proofs.lemmas.Grind.{common_steps}
 use Rattle.jitter_model.specs.declared.Settings.{Settings}
 use Rattle.jitter_model.specs.declared.Held.{Held}
-use Rattle.jitter_model.specs.declared.Mark.{Mark}
 use Rattle.jitter_model.specs.declared.Turn.{Turn}
-use Rattle.jitter_model.specs.declared.Turn.TheVariants.{Packet, Lost, End, Idle}
-use Rattle.jitter_model.specs.History.{Push, Clock, Ends, Turned, History, next, is_out, gives, covered, now, all_ended}
-use Rattle.jitter_model.specs.Accepted.{Taken, top, least, accepted, has, is_late, is_accepted, number_from}
-use Rattle.jitter_model.specs.Times.{find, expected, pts_after}
-use Rattle.jitter_model.specs.Replies.{Run, turn, turn_by, turn_unstarted, turn_started, may_start, packet_turn, lost_turn, least_from, ends_loss, start_wake, Sight, sight}
-use Rattle.jitter_model.proofs.Numbered.{AreTops, tops, numbered}
+use Rattle.jitter_model.specs.declared.Turn.TheVariants.{Packet, Lost, Request, End, Idle, Flushing}
+use Rattle.jitter_model.specs.declared.Entry.TheVariants.{Push, Clock, FlushStart, FlushStop, Latency, Report, Ends, Turned}
+use Rattle.jitter_model.specs.History.{History, is_flushing}
+use Rattle.jitter_model.specs.Covered.{opens, next, next_after, numbers_from, covered_after, covered}
+use Rattle.jitter_model.specs.Requests.{Asked}
+use Rattle.jitter_model.specs.Turns.{Sight, low, asked, may_start, may_give, is_lost, ends_loss, loss_end, packet_turn, request_turn, lost_turn, turn_by, sight, turn}
+use Rattle.jitter_model.specs.Runs.{Run}
+use Rattle.jitter_model.specs.Laws.{IsConsecutive}
+use Rattle.jitter_model.proofs.Chain.{by_turn, least_from_le, least_from_above}
 
--- both branches
-pub split : {A : Type 0} (P : A → Type 0) (b : Bool) (x y : A) → (b ≡ true → P x) → (b ≡ false → P y) → P (if b then x else y)
-split P true x y f g = f refl
-split P false x y f g = g refl
+-- what numbers a reply covers: the least one first, then the next one, or those from it on up to one that isn't past the greatest
+abbrev pub Covers : Sight → Option ℕ → Turn → Type 0
+Covers v None (Packet m pts p) = (m ≡ v.least) × (may_start v v.start ≡ true)
+Covers v (Some k) (Packet m pts p) = (m ≡ k) × (v.among k ≡ true)
+Covers v None (Lost n count pts d) = ⊥
+Covers v (Some k) (Lost n count pts d) = (n ≡ k) × (n + count ≤ v.top) × (0 < count)
+Covers v o _ = ⊤
 
--- the reply covers numbers from the next one on, or where that isn't known from the least one, and none above the greatest
-abbrev pub Covers : ℕ → ℕ → Option ℕ → Turn → Type 0
-Covers t l None (Packet m pts p) = (m ≡ l) × (m ≤ t) × (0 < t)
-Covers t l (Some k) (Packet m pts p) = (m ≡ k) × (m ≤ t) × (0 < t)
-Covers t l None (Lost n count pts d) = ⊥
-Covers t l (Some k) (Lost n count pts d) = (n ≡ k) × (n + count ≤ t) × (0 < t) × (0 < count)
-Covers t l o End = ⊤
-Covers t l o (Idle wake) = ⊤
+pub record Covering (v : Sight) (o : Option ℕ) (r : Turn) : Type 0 where
+  pub fact : Covers v o r
 
-pub record IsCovering (t l : ℕ) (o : Option ℕ) (r : Turn) : Type 0 where
-  pub fact : Covers t l o r
+packet_covers : (v : Sight) (o : Option ℕ) (p : Option Held) → may_give v o ≡ true → Covering v o (packet_turn (low v o) p)
+packet_covers v None None e = record { fact = tt }
+packet_covers v (Some k) None e = record { fact = tt }
+packet_covers v None (Some p) e = record { fact = (refl, e) }
+packet_covers v (Some k) (Some p) e = record { fact = (refl, e) }
 
-pub least_from_le : (passes : ℕ → Bool) (n count : ℕ) → least_from passes n count ≤ n + count
-least_from_le passes n zero = omega arith
-least_from_le passes n (suc count) =
-    split (λ m. m ≤ n + suc count) (passes n) n (least_from passes (n + 1) count) (λ e. omega arith) (λ e. omega (arith, least_from_le passes (n + 1) count))
-
-pub least_from_above : (passes : ℕ → Bool) (n count : ℕ) → n ≤ least_from passes n count
-least_from_above passes n zero = omega arith
-least_from_above passes n (suc count) =
-    split (λ m. n ≤ m) (passes n) n (least_from passes (n + 1) count) (λ e. omega arith) (λ e. omega (arith, least_from_above passes (n + 1) count))
-
-pub has-le : (ps : List Taken) (n : ℕ) → has ps n ≡ true → n ≤ unwrap_or (top ps) 0
-has-le [] n h = cc
-has-le (p ∷ ps) n h = grind (arith, common_steps, has-le ps n)
-
-least_le : (count : ℕ) (t l : Option ℕ) → AreTops count t l → unwrap_or l 0 ≤ unwrap_or t 0
-least_le count None None h = omega arith
-least_le count None (Some l) h = absurd h
-least_le count (Some t) None h = absurd h
-least_le count (Some t) (Some l) h = h.1
-
-packet_covers_none : (t m : ℕ) (o : Option Held) → m ≤ t → 0 < t → IsCovering t m None (packet_turn m o)
-packet_covers_none t m None h z = record { fact = tt }
-packet_covers_none t m (Some p) h z = record { fact = (refl, h, z) }
-
-packet_covers : (t l k : ℕ) (o : Option Held) → k ≤ t → 0 < t → IsCovering t l (Some k) (packet_turn k o)
-packet_covers t l k None h z = record { fact = tt }
-packet_covers t l k (Some p) h z = record { fact = (refl, h, z) }
-
-unstarted_covers : (v : Sight) → v.least ≤ v.top → (may_start v.time v.ended v.start ≡ true → 0 < v.top) → IsCovering v.top v.least None (turn_unstarted v)
-unstarted_covers v le some =
-    split (IsCovering v.top v.least None) (may_start v.time v.ended v.start) _ _
-    (λ e. packet_covers_none _ _ _ le (some e))
-    (λ e. split (IsCovering v.top v.least None) (v.ended && not (is_some v.start) && not v.told) _ _ (λ _. record { fact = tt }) (λ _. record { fact = tt }))
-
-lost_covers : (t l n : ℕ) (ms : List Mark) (passes : ℕ → Bool) → n < t → IsCovering t l (Some n) (lost_turn ms n (least_from passes (n + 1) (t - (n + 1))))
-lost_covers t l n ms passes lt =
+lost_covers : (v : Sight) (o : Option ℕ) → is_lost v o ≡ true → Covering v o (lost_turn v.marks (low v o) (loss_end v (low v o)))
+lost_covers v None e = cc
+lost_covers v (Some n) e =
+    let lt : n < v.top = grind (arith, common_steps) in
     record {
-      fact = (refl, omega (arith, least_from_le passes (n + 1) (t - (n + 1))), omega arith, omega (arith, least_from_above passes (n + 1) (t - (n + 1))));
+      fact = (refl, omega (arith, least_from_le (ends_loss v) (n + 1) (v.top - (n + 1))), omega (arith, least_from_above (ends_loss v) (n + 1) (v.top - (n + 1))));
     }
 
-and-left : (a b : Bool) → (a && b) ≡ true → a ≡ true
-and-left true b e = refl
-and-left false b e = e
+request_covers : (v : Sight) (o : Option ℕ) (a : Option Asked) → Covering v o (request_turn a)
+request_covers v None None = record { fact = tt }
+request_covers v (Some k) None = record { fact = tt }
+request_covers v None (Some a) = record { fact = tt }
+request_covers v (Some k) (Some a) = record { fact = tt }
 
-started_covers : (v : Sight) (n : ℕ) → (v.among n ≡ true → (n ≤ v.top) × (0 < v.top)) → IsCovering v.top v.least (Some n) (turn_started v n)
-started_covers v n le =
-    split (IsCovering v.top v.least (Some n)) (v.among n) _ _
-    (λ e. packet_covers v.top v.least n _ (le e).0 (le e).1)
-    (λ e. split (IsCovering v.top v.least (Some n)) (nat_lt n v.top && nat_le (expected v.marks n + v.latency) v.time) _ _
-    (λ f. lost_covers v.top v.least n _ (ends_loss v.time v.latency v.among v.marks) (let g : nat_lt n v.top ≡ true = and-left _ _ f in grind (arith, common_steps)))
-    (λ f. split (IsCovering v.top v.least (Some n)) (v.ended && nat_lt v.top n && not v.told) _ _ (λ _. record { fact = tt }) (λ _. record { fact = tt })))
+none_covers : (v : Sight) (o : Option ℕ) (w : Option ℕ) → Covering v o (Idle w) × Covering v o End × Covering v o Flushing
+none_covers v None w = (record { fact = tt }, record { fact = tt }, record { fact = tt })
+none_covers v (Some k) w = (record { fact = tt }, record { fact = tt }, record { fact = tt })
 
-top_positive : (n : ℕ) (t l : Option ℕ) → AreTops n t l → is_some t ≡ true → 0 < unwrap_or t 0
-top_positive n None l h e = cc
-top_positive n (Some t) None h e = absurd h
-top_positive n (Some t) (Some l) h e = omega arith
+pub turn_covers : (s : Settings) (v : Sight) (o : Option ℕ) → Covering v o (turn_by s v o)
+turn_covers s v o =
+    by_turn (Covering v o) s v o
+    (λ _. (none_covers v o None).2)
+    (λ _ _. request_covers v o (asked s v o))
+    (λ _ _ g. packet_covers v o (v.held (low v o)) g)
+    (λ _ _ _ l. lost_covers v o l)
+    (λ _ _ _ _ _. (none_covers v o None).1)
+    (λ _ _ _ _ _. (none_covers v o _).0)
 
-has_top : (ps : List Taken) (n : ℕ) → has ps n ≡ true → is_some (top ps) ≡ true
-has_top [] n h = h
-has_top (p ∷ ps) n h = refl
+pub covers : (s : Settings) (h : History) (r : Turn) → r ≡ turn s h → Covering (sight s h) (next h) r
+covers s h r e = subst (λ r. Covering (sight s h) (next h) r) (sym e) (turn_covers s (sight s h) (next h))
 
-start_top : (s : Settings) (ps : List Taken) (time : ℕ) (ended : Bool) → may_start time ended (start_wake s ps) ≡ true → is_some (top ps) ≡ true
-start_top s [] time ended h = h
-start_top s (p ∷ ps) time ended h = refl
+-- ---- the covered numbers are consecutive
 
-pub covers : (s : Settings) (h : History) → Run s h → IsCovering (unwrap_or (top (accepted h)) 0) (unwrap_or (least (accepted h)) 0) (next h) (turn s h)
-covers s h r =
-    let are : AreTops (length (accepted h)) (top (accepted h)) (least (accepted h)) = tops (accepted h) (numbered s h r) in
-    elim (next h) as (λ o. IsCovering (unwrap_or (top (accepted h)) 0) (unwrap_or (least (accepted h)) 0) o (turn_by (sight s h) o)) [
-      | None ↦ unstarted_covers (sight s h) (least_le _ _ _ are) (λ e. top_positive _ _ _ are (start_top s (accepted h) (now h) (all_ended h) e))
-      | Some n ↦ started_covers (sight s h) n (λ e. (has-le (accepted h) n e, top_positive _ _ _ are (has_top (accepted h) n e)))
-    ]
+-- the last covered number is the one before the next
+abbrev pub IsLast : Option ℕ → List ℕ → Type 0
+IsLast None [] = ⊤
+IsLast None (n ∷ ns) = ⊥
+IsLast (Some k) [] = ⊥
+IsLast (Some k) (n ∷ ns) = k ≡ n + 1
 
--- a number that isn't late was not given out
-turn_out : (t l : ℕ) (o : Option ℕ) (r : Turn) (n : ℕ) (out : Bool) → Covers t l o r → (out ≡ true → is_late o n ≡ true) → (gives r n || out) ≡ true → is_late (covered r o) n ≡ true
-turn_out t l None (Packet m pts p) n out c h e = grind (arith, common_steps)
-turn_out t l (Some k) (Packet m pts p) n out c h e = grind (arith, common_steps)
-turn_out t l None (Lost m count pts d) n out c h e = absurd c
-turn_out t l (Some k) (Lost m count pts d) n out c h e = grind (arith, common_steps)
-turn_out t l o End n out c h e = h e
-turn_out t l o (Idle wake) n out c h e = h e
+pub record Ordered (o : Option ℕ) (ns : List ℕ) : Type 0 where
+  pub last : IsLast o ns
+  pub in_order : IsConsecutive ns
 
-pub out_late : (s : Settings) (h : History) (n : ℕ) → Run s h → is_out h n ≡ true → is_late (next h) n ≡ true
-out_late s [] n r e = cc
-out_late s (Push a v m ∷ h) n r e = out_late s h n r.1 e
-out_late s (Clock t ∷ h) n r e = out_late s h n r e
-out_late s (Ends p ∷ h) n r e = out_late s h n r e
-out_late s (Turned t ∷ h) n r e =
-    turn_out (unwrap_or (top (accepted h)) 0) (unwrap_or (least (accepted h)) 0) (next h) t n (is_out h n) (rw (r.0) (covers s h r.1).fact) (out_late s h n r.1) e
+one_more : (k : ℕ) (ns : List ℕ) → Ordered (Some k) ns → Ordered (Some (k + 1)) (k ∷ ns)
+one_more k [] h = absurd h.last
+one_more k (n ∷ ns) h = record { last = refl; in_order = (h.last, h.in_order) }
 
--- the next number is at most one past the greatest
-abbrev pub IsNext : ℕ → Option ℕ → Type 0
-IsNext t None = ⊤
-IsNext t (Some n) = n ≤ t + 1
+many_more : (k count : ℕ) (ns : List ℕ) → Ordered (Some k) ns → Ordered (Some (k + count)) (numbers_from k count ++ ns)
+many_more k zero ns h = let none : k + 0 ≡ k = omega arith in rw none h
+many_more k (suc count) ns h =
+    let next_one : k + suc count ≡ k + count + 1 = omega arith in
+    rw next_one (one_more (k + count) (numbers_from k count ++ ns) (many_more k count ns h))
 
-next_turned : (t l : ℕ) (o : Option ℕ) (r : Turn) → Covers t l o r → IsNext t o → IsNext t (covered r o)
-next_turned t l None (Packet m pts p) c h = omega arith
-next_turned t l (Some k) (Packet m pts p) c h = omega arith
-next_turned t l None (Lost m count pts d) c h = absurd c
-next_turned t l (Some k) (Lost m count pts d) c h = omega arith
-next_turned t l o End c h = h
-next_turned t l o (Idle wake) c h = h
+turn_ordered : (v : Sight) (o : Option ℕ) (r : Turn) (ns : List ℕ) → Covers v o r → Ordered o ns → Ordered (next_after o r) (covered_after ns r)
+turn_ordered v None (Packet m pts p) [] c h = record { last = refl; in_order = tt }
+turn_ordered v None (Packet m pts p) (n ∷ ns) c h = absurd h.last
+turn_ordered v (Some k) (Packet m pts p) ns c h = subst (λ k. Ordered (Some (k + 1)) (k ∷ ns)) (sym (c.0)) (one_more k ns h)
+turn_ordered v None (Lost n count pts d) ns c h = absurd c
+turn_ordered v (Some k) (Lost n count pts d) ns c h = subst (λ k. Ordered (Some (k + count)) (numbers_from k count ++ ns)) (sym (c.0)) (many_more k count ns h)
+turn_ordered v o (Request n k) ns c h = h
+turn_ordered v o End ns c h = h
+turn_ordered v o (Idle wake) ns c h = h
+turn_ordered v o Flushing ns c h = h
 
-next_more : (t u : ℕ) (o : Option ℕ) → t ≤ u → IsNext t o → IsNext u o
-next_more t u None le h = tt
-next_more t u (Some n) le h = omega arith
+-- where a segment begins nothing is covered
+anew : (b : Bool) (o : Option ℕ) (ns : List ℕ) → Ordered o ns → Ordered (if b then None else o) (if b then [] else ns)
+anew true o ns h = record { last = tt; in_order = tt }
+anew false o ns h = h
 
-top_more : (v : Bool) (p : Taken) (ps : List Taken) → unwrap_or (top ps) 0 ≤ unwrap_or (top (if v then p ∷ ps else ps)) 0
-top_more true p ps = omega arith
-top_more false p ps = omega arith
+pub ordered : (s : Settings) (h : History) → Run s h → Ordered (next h) (covered h)
+ordered s [] r = record { last = tt; in_order = tt }
+ordered s (Push a v n d ∷ h) r = anew (opens v) (next h) (covered h) (ordered s h r.1)
+ordered s (Clock t ∷ h) r = ordered s h r.1
+ordered s (FlushStart d ∷ h) r = ordered s h r.1
+ordered s (FlushStop ∷ h) r = anew (is_flushing h) (next h) (covered h) (ordered s h r)
+ordered s (Latency ns ∷ h) r = ordered s h r.1
+ordered s (Report ntp rtp reply ∷ h) r = ordered s h r.1
+ordered s (Ends p ∷ h) r = ordered s h r.1
+ordered s (Turned t ∷ h) r = turn_ordered (sight s h) (next h) t (covered h) (covers s h t r.0).fact (ordered s h r.1)
 
-pub next_le : (s : Settings) (h : History) → Run s h → IsNext (unwrap_or (top (accepted h)) 0) (next h)
-next_le s [] r = tt
-next_le s (Push a v n ∷ h) r =
-    next_more _ _ (next h) (top_more (is_accepted v) (record { number = number_from (top (accepted h)) a.packet.seq; arrival = a }) (accepted h)) (next_le s h r.1)
-next_le s (Clock t ∷ h) r = next_le s h r
-next_le s (Ends p ∷ h) r = next_le s h r
-next_le s (Turned t ∷ h) r =
-    next_turned (unwrap_or (top (accepted h)) 0) (unwrap_or (least (accepted h)) 0) (next h) t (rw (r.0) (covers s h r.1).fact) (next_le s h r.1)
-
--- a packet is found exactly where its number is among them
-pub is_some-find : (rate : ℕ) (ps : List Taken) (n : ℕ) → is_some (find rate ps n) ≡ has ps n
-is_some-find rate [] n = refl
-is_some-find rate (p ∷ ps) n =
-    elim (n == p.number) as (λ b. is_some (if b then Some (record { pts = pts_after rate ps p; packet = p.arrival.packet }) else find rate ps n) ≡ (b || has ps n)) [
-      | true ↦ refl
-      | false ↦ is_some-find rate ps n
-    ]
+pub consecutive : (s : Settings) (h : History) → Run s h → IsConsecutive (covered h)
+consecutive s h r = (ordered s h r).in_order
