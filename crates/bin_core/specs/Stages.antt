@@ -1,6 +1,9 @@
--- How many packets came to a lane.
-use Rattle.std.specs.Prelude.{ℕ, ◌+◌, ◌-◌, Option, None, Some}
-use Rattle.jitter_core.specs.Words.{pushes_of}
+-- The settings and pushers of a lane, and how many packets came to it.
+use Rattle.std.specs.Prelude.{◌≡◌, ℕ, ◌+◌, ◌-◌, Option, None, Some}
+use Rattle.jitter_model.specs.declared.Settings.{Settings}
+use Rattle.jitter_model.specs.Runs.{IsValid}
+use Rattle.jitter_core.specs.Stands.{IsBuilt}
+use Rattle.jitter_core.specs.Words.{pushes_of, settings_of}
 use Rattle.bin_core.specs.declared.lane.Lane.{Lane}
 
 abbrev pub pushes_in : Option Lane → ℕ
@@ -11,3 +14,14 @@ pushes_in (Some lane) = pushes_of lane.buffer
 abbrev pub room : ℕ → Option ℕ → ℕ
 room limit None = 0
 room limit (Some time) = limit + 1 - time
+
+-- settings of a lane with session 0 and the control as its pushers
+pub record IsOneSession (s : Settings) : Type 0 where
+  pub valid : IsValid s
+  pub built : IsBuilt s
+  pub pushers : s.pushers ≡ 257
+
+-- the set of a lane's pushers: bits 0 and 8
+abbrev pub pushers_in : Option Lane → ℕ
+pushers_in None = 257
+pushers_in (Some lane) = (settings_of lane.buffer).pushers

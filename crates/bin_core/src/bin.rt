@@ -1,7 +1,6 @@
 //! The bin: records in order of time, and wakes between them.
 ghost use Rattle.std.specs.Prelude.{◌≡◌, ◌<◌, ◌≤◌, ◌+◌, ◌^◌};
-ghost use Rattle.jitter_core.specs.Stands.{IsValid};
-ghost use Rattle.bin_core.specs.Stages.{pushes_in};
+ghost use Rattle.bin_core.specs.Stages.{IsOneSession, pushers_in, pushes_in};
 
 use crate::stage::{Stage, finish, take_record};
 use jitter_core::Settings;
@@ -17,7 +16,8 @@ pub const MAX_RECORDS: u64 = 100_000_000;
 #[derive(Drop)]
 pub struct Bin {
     stage: Stage,
-    ghost valid: { IsValid stage.settings },
+    ghost settings: { IsOneSession stage.settings },
+    ghost pushers: { pushers_in stage.lane ≡ 257 },
     ghost room: { pushes_in stage.lane ≤ stage.records },
 }
 
@@ -26,7 +26,7 @@ impl Bin {
 
     /// A bin before any record.
     pub fn new(settings: &Settings) -> Bin
-        requires { IsValid settings.now }
+        requires { IsOneSession settings.now }
         ensures records { records_of result ≡ 0 }
         ensures time { time_of result ≡ 0 }
     {

@@ -1,70 +1,75 @@
 //! From a record to a packet for the lane.
 
-use byteorder::{BigEndian, ByteOrder};
-use first_model::Packet;
+use jitter_core::Packet;
 use pcap_file::{Datagram, PcapRecord, datagram};
 use rtp_units::{Address, Blob, OutOfMemory};
+use rtp_wire::{RtpView, read};
 use std::alloc::Global;
+use timeline::{Word, rtp_word, skip_word};
 
+// The session.
 const RTP_PORT: u16 = 5004;
-/// Version 2, without padding, extension and CSRCs.
-const PLAIN_VERSION_2: u8 = 0x80;
 
-const MARKER: u8 = 0x80;
+const RTCP_PORT: u16 = 5005;
 /// The payload type of the session.
 pub const PAYLOAD_TYPE: u8 = 96;
-
-const HEADER_BYTES: usize = 12;
 /// The program's own SSRC.
 const OWN_SSRC: u32 = 1;
 
-/// Who sends the stream.
+/// Who sends a stream.
 #[derive(Clone, Copy, Debug, PartialEq, Eq, Drop)]
 pub struct Source {
     pub ssrc: u32,
     pub from: Address,
 }
 
-/// The packet of a record that holds one of the session, and its source.
-pub fn packet_of(
-    alloc: Global,
-    link: u16,
-    rec: &PcapRecord,
-) -> Result<Option<(Source, Packet)>, OutOfMemory> {
+/// What a record brings.
+#[derive(Drop)]
+pub enum Heard {
+    /// Nothing for the session.
+    Skip(Word),
+    /// A payload on the RTP port that is no RTP packet.
+    Bad(Word),
+    /// A packet of this source.
+    Packet(Source, Packet),
+}
+
+/// What this record brings.
+pub fn hear(alloc: Global, link: u16, rec: &PcapRecord) -> Result<Heard, OutOfMemory> {
     match datagram(link, rec) {
-        Ok(datagram) => rtp_packet(alloc, &datagram),
-        Err(_) => Ok(None),
+        Ok(datagram) => hear_datagram(alloc, &datagram),
+        Err(skip) => Ok(Heard::Skip(skip_word(skip))),
     }
 }
 
-// Reads the plain form of an RTP packet: RFC 3550, section 5.1.
-fn rtp_packet(
-    alloc: Global,
-    datagram: &Datagram<'_>,
-) -> Result<Option<(Source, Packet)>, OutOfMemory> {
-    let bytes = datagram.payload;
-    if datagram.to.port != RTP_PORT || bytes.len() < HEADER_BYTES {
-        return Ok(None);
+fn hear_datagram(alloc: Global, datagram: &Datagram<'_>) -> Result<Heard, OutOfMemory> {
+    match datagram.to.port {
+        RTP_PORT => match read(datagram.payload) {
+            Ok(view) => hear_packet(alloc, datagram.from, &view),
+            Err(fault) => Ok(Heard::Bad(rtp_word(fault))),
+        },
+        RTCP_PORT => Ok(Heard::Skip(Word::Unbuilt)),
+        _ => Ok(Heard::Skip(Word::Port)),
     }
-    let ssrc = BigEndian::read_u32(&bytes[8..12]);
-    if bytes[0] != PLAIN_VERSION_2 || bytes[1] & !MARKER != PAYLOAD_TYPE || ssrc == OWN_SSRC {
-        return Ok(None);
+}
+
+fn hear_packet(alloc: Global, from: Address, view: &RtpView<'_>) -> Result<Heard, OutOfMemory> {
+    let ssrc = view.ssrc();
+    if view.pt() != PAYLOAD_TYPE || ssrc == OWN_SSRC {
+        return Ok(Heard::Skip(Word::Unbuilt));
     }
-    let payload = match u16::try_from(bytes.len() - HEADER_BYTES) {
+    // The payload of a datagram has at most 9,216 bytes.
+    let payload = match u16::try_from(view.payload().len()) {
         Ok(payload) => payload,
-        Err(_) => return Ok(None),
+        Err(_) => return Ok(Heard::Skip(Word::Big)),
     };
     let packet = Packet {
-        seq: BigEndian::read_u16(&bytes[2..4]),
-        rtp: BigEndian::read_u32(&bytes[4..8]),
-        pt: PAYLOAD_TYPE,
-        marker: bytes[1] & MARKER != 0,
+        seq: view.seq(),
+        rtp: view.timestamp(),
+        pt: view.pt(),
+        marker: view.marker(),
         payload,
-        bytes: Blob::copy_of(alloc, bytes)?,
+        bytes: Blob::copy_of(alloc, view.bytes())?,
     };
-    let source = Source {
-        ssrc,
-        from: datagram.from,
-    };
-    Ok(Some((source, packet)))
+    Ok(Heard::Packet(Source { ssrc, from }, packet))
 }

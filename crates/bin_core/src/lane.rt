@@ -1,7 +1,8 @@
 //! One lane: the jitterbuffer of a source.
 ghost use Rattle.std.specs.Prelude.{◌≡◌, ◌<◌, ◌≤◌, ◌^◌, ◌+◌, IfOk, IfSome, Some, OnOk, false};
-ghost use Rattle.first_model.specs.Replies.{IsLater, is_idle};
-ghost use Rattle.jitter_core.specs.Words.{now_of, pushes_of};
+ghost use Rattle.jitter_model.specs.Turns.{is_quiet};
+ghost use Rattle.jitter_model.specs.Laws.{IsLater};
+ghost use Rattle.jitter_core.specs.Words.{now_of, pushes_of, settings_of};
 
 use crate::front::Source;
 use jitter_core::{Arrival, Buffer, Origin, Packet, Turn, Verdict};
@@ -39,7 +40,9 @@ pub fn take(
     lines: &mut Lines,
 ) -> Result<(), OutOfMemory>
     requires time { time < 2 ^ 63 }
+    requires pushers { (settings_of lane.old.buffer).pushers ≡ 257 }
     requires few { pushes_of lane.old.buffer < 2 ^ 31 }
+    ensures settings { settings_of lane.new.buffer ≡ settings_of lane.old.buffer }
     ensures count { pushes_of lane.new.buffer ≤ pushes_of lane.old.buffer + 1 }
 {
     let seq = packet.seq;
@@ -51,14 +54,24 @@ pub fn take(
         packet,
     };
     let answer = lane.buffer.push(arrival);
-    if let Verdict::Memory = answer.verdict {
-        return Err(OutOfMemory);
-    }
+    tell_dropped(lane.number, time, answer.aside_dropped, lines)?;
     tell_verdict(lane, time, seq, answer.verdict, lines)?;
     tick(lane, time, lines)
 }
 
-// Adds the line of a refused packet.
+// Adds the line of packets that a push dropped, if it dropped any.
+fn tell_dropped(lane: u8, time: u64, count: u8, lines: &mut Lines) -> Result<(), OutOfMemory> {
+    if count == 0 {
+        return Ok(());
+    }
+    lines.push(BinLine::Unaside {
+        time,
+        lane,
+        count: u32::from(count),
+    })
+}
+
+// Adds the line of a push that was not simply accepted.
 fn tell_verdict(
     lane: &mut Lane,
     time: u64,
@@ -68,44 +81,56 @@ fn tell_verdict(
 ) -> Result<(), OutOfMemory>
     ensures buffer { lane.new.buffer ≡ lane.old.buffer }
 {
-    match refusal(verdict) {
-        None => Ok(()),
-        Some(word) => {
-            lane.counts.refused = lane.counts.refused.saturating_add(1);
-            lines.push(BinLine::Refuse {
+    let number = lane.number;
+    let word = match verdict {
+        Verdict::Accepted => return Ok(()),
+        Verdict::Aside => {
+            return lines.push(BinLine::Aside {
                 time,
-                lane: lane.number,
+                lane: number,
                 seq,
-                kind: Origin::Original,
-                word,
-            })
+            });
         }
-    }
-}
-
-fn refusal(verdict: Verdict) -> Option<Word> {
-    match verdict {
-        Verdict::Accepted | Verdict::Memory => None,
-        Verdict::Far => Some(Word::Far),
-        Verdict::Late => Some(Word::Late),
-        Verdict::Duplicate => Some(Word::Duplicate),
-        Verdict::Full => Some(Word::Full),
-        Verdict::Ended => Some(Word::Ended),
-    }
+        Verdict::Restart(discarded) => {
+            return lines.push(BinLine::Restart {
+                time,
+                lane: number,
+                seq,
+                discarded,
+            });
+        }
+        Verdict::Late => Word::Late,
+        Verdict::Duplicate => Word::Duplicate,
+        Verdict::Full => Word::Full,
+        Verdict::Stray => Word::Stray,
+        Verdict::Flushing => Word::Flushing,
+        Verdict::Ended => Word::Ended,
+    };
+    lane.counts.refused = lane.counts.refused.saturating_add(1);
+    lines.push(BinLine::Refuse {
+        time,
+        lane: number,
+        seq,
+        kind: Origin::Original,
+        word,
+    })
 }
 
 /// The lane's clock comes to a time, and the lane takes its turns.
 pub fn tick(lane: &mut Lane, time: u64, lines: &mut Lines) -> Result<(), OutOfMemory>
+    requires time { time < 2 ^ 63 + 2 ^ 50 }
     ensures later { OnOk result (IsLater time lane.new.wake) }
+    ensures settings { settings_of lane.new.buffer ≡ settings_of lane.old.buffer }
     ensures count { pushes_of lane.new.buffer ≡ pushes_of lane.old.buffer }
 {
     lane.buffer.clock(time);
     settle(lane, time, lines)
 }
 
-/// Takes turns until one is idle, and keeps its wake.
+/// Takes turns until one is idle or a flush's, and keeps its wake.
 pub fn settle(lane: &mut Lane, time: u64, lines: &mut Lines) -> Result<(), OutOfMemory>
     ensures later { OnOk result (IsLater (now_of lane.old.buffer) lane.new.wake) }
+    ensures settings { settings_of lane.new.buffer ≡ settings_of lane.old.buffer }
     ensures count { pushes_of lane.new.buffer ≡ pushes_of lane.old.buffer }
 {
     'turns: loop {
@@ -114,14 +139,18 @@ pub fn settle(lane: &mut Lane, time: u64, lines: &mut Lines) -> Result<(), OutOf
                 lane.wake = wake;
                 return Ok(());
             }
+            Turn::Flushing => {
+                lane.wake = None;
+                return Ok(());
+            }
             turn => lines.push(reply_line(lane, time, turn))?,
         }
     }
 }
 
-// The line of a reply that is not idle.
+// The line of a reply that tells something.
 fn reply_line(lane: &mut Lane, time: u64, turn: Turn) -> BinLine
-    requires { is_idle turn ≡ false }
+    requires { is_quiet turn ≡ false }
     ensures buffer { lane.new.buffer ≡ lane.old.buffer }
 {
     match turn {
@@ -158,11 +187,17 @@ fn reply_line(lane: &mut Lane, time: u64, turn: Turn) -> BinLine
                 duration,
             }
         }
+        Turn::Request { number, k } => BinLine::Request {
+            time,
+            lane: lane.number,
+            number,
+            k,
+        },
         Turn::End => BinLine::End {
             time,
             lane: lane.number,
         },
-        Turn::Idle { .. } => unreachable!(),
+        Turn::Idle { .. } | Turn::Flushing => unreachable!(),
     }
 }
 
@@ -184,6 +219,8 @@ pub fn serve(
     before: u64,
     lines: &mut Lines,
 ) -> Result<u64, OutOfMemory>
+    requires limit { limit < 2 ^ 63 + 2 ^ 50 }
+    ensures settings { settings_of lane.new.buffer ≡ settings_of lane.old.buffer }
     ensures count { pushes_of lane.new.buffer ≡ pushes_of lane.old.buffer }
 {
     let mut last = before;
@@ -200,6 +237,8 @@ pub fn serve(
 
 /// Ends both pushers, each followed by turns.
 pub fn end(lane: &mut Lane, time: u64, lines: &mut Lines) -> Result<(), OutOfMemory>
+    requires pushers { (settings_of lane.old.buffer).pushers ≡ 257 }
+    ensures settings { settings_of lane.new.buffer ≡ settings_of lane.old.buffer }
     ensures count { pushes_of lane.new.buffer ≡ pushes_of lane.old.buffer }
 {
     lane.buffer.end(SESSION);

@@ -1,16 +1,20 @@
 //! What a bin keeps, and how it goes on.
 ghost use Rattle.std.specs.Prelude.{◌≡◌, ◌<◌, ◌≤◌, ◌+◌, ◌^◌, IfOk};
-ghost use Rattle.jitter_core.specs.Stands.{IsValid};
-ghost use Rattle.jitter_core.specs.Words.{pushes_of};
-ghost use Rattle.bin_core.specs.Stages.{pushes_in};
+ghost use Rattle.jitter_model.specs.Runs.{IsValid};
+ghost use Rattle.jitter_core.specs.Stands.{IsBuilt};
+ghost use Rattle.jitter_core.specs.Words.{pushes_of, settings_of};
+ghost use Rattle.bin_core.specs.Stages.{IsOneSession, pushers_in, pushes_in};
 
-use crate::front::{PAYLOAD_TYPE, Source, packet_of};
+use crate::front::{Heard, PAYLOAD_TYPE, Source, hear};
 use crate::lane::{Counts, Lane, SESSION, end, serve, take};
 use jitter_core::{Buffer, Packet, Settings};
 use pcap_file::PcapRecord;
 use rtp_units::OutOfMemory;
 use std::alloc::Global;
 use timeline::{BinLine, Lines, Word};
+
+/// Later than every wake: a presentation time is below 2^63 nanoseconds, a latency at most 600 seconds.
+const END_OF_TIME: u64 = 9_224_497_936_761_618_431;
 
 /// The settings, the lane once there is one, the number of records and the greatest time.
 #[derive(Drop)]
@@ -31,12 +35,14 @@ pub fn take_record(
     rec: &PcapRecord,
     lines: &mut Lines,
 ) -> Result<(), OutOfMemory>
-    requires valid { IsValid stage.old.settings }
+    requires settings { IsOneSession stage.old.settings }
+    requires pushers { pushers_in stage.old.lane ≡ 257 }
     requires room { pushes_in stage.old.lane ≤ stage.old.records }
     requires number { n ≡ stage.old.records + 1 }
     requires few { n ≤ 100000000 }
     requires small { time < 2 ^ 63 }
-    ensures valid { stage.new.settings ≡ stage.old.settings }
+    ensures settings { stage.new.settings ≡ stage.old.settings }
+    ensures pushers { pushers_in stage.new.lane ≡ 257 }
     ensures room { pushes_in stage.new.lane ≤ stage.new.records }
     ensures records { stage.new.records ≡ n }
     ensures time { stage.new.time ≡ time }
@@ -44,8 +50,8 @@ pub fn take_record(
     stage.records = n;
     stage.time = time;
     serve_wakes(&mut stage.lane, time, time, lines)?;
-    match packet_of(alloc, link, rec)? {
-        Some((source, packet)) if is_of(&stage.lane, &source) => {
+    match hear(alloc, link, rec)? {
+        Heard::Packet(source, packet) if is_of(&stage.lane, &source) => {
             let settings = stage.settings;
             take_packet(
                 &mut stage.lane,
@@ -57,11 +63,22 @@ pub fn take_record(
                 lines,
             )
         }
-        _ => lines.push(BinLine::Skip {
+        // A second source is not built yet.
+        Heard::Packet(_, _) => lines.push(skip_line(time, n, Word::Unbuilt)),
+        Heard::Skip(reason) => lines.push(skip_line(time, n, reason)),
+        Heard::Bad(word) => lines.push(BinLine::Bad {
             time,
-            record: n,
-            reason: Word::Unbuilt,
+            session: SESSION,
+            word,
         }),
+    }
+}
+
+fn skip_line(time: u64, record: u64, reason: Word) -> BinLine {
+    BinLine::Skip {
+        time,
+        record,
+        reason,
     }
 }
 
@@ -83,9 +100,11 @@ fn take_packet(
     packet: Packet,
     lines: &mut Lines,
 ) -> Result<(), OutOfMemory>
-    requires valid { IsValid settings.now }
+    requires settings { IsOneSession settings.now }
+    requires pushers { pushers_in lane.old ≡ 257 }
     requires few { pushes_in lane.old < 2 ^ 31 }
     requires time { time < 2 ^ 63 }
+    ensures pushers { pushers_in lane.new ≡ 257 }
     ensures count { pushes_in lane.new ≤ pushes_in lane.old + 1 }
 {
     match lane {
@@ -107,8 +126,9 @@ fn make_lane(
     source: Source,
     lines: &mut Lines,
 ) -> Result<Lane, OutOfMemory>
-    requires valid { IsValid settings.now }
+    requires settings { IsOneSession settings.now }
     ensures fresh { IfOk result (λ lane. pushes_of lane.buffer ≡ 0) }
+    ensures pushers { IfOk result (λ lane. (settings_of lane.buffer).pushers ≡ 257) }
 {
     lines.push(BinLine::Pt {
         time,
@@ -122,7 +142,7 @@ fn make_lane(
         session: SESSION,
         ssrc: source.ssrc,
     })?;
-    let buffer = Buffer::new(alloc, settings);
+    let buffer = Buffer::new(alloc, settings)?;
     Ok(Lane {
         number: 0,
         source,
@@ -143,6 +163,8 @@ fn serve_wakes(
     before: u64,
     lines: &mut Lines,
 ) -> Result<u64, OutOfMemory>
+    requires limit { limit < 2 ^ 63 + 2 ^ 50 }
+    ensures pushers { pushers_in lane.new ≡ pushers_in lane.old }
     ensures count { pushes_in lane.new ≡ pushes_in lane.old }
 {
     match lane {
@@ -153,11 +175,13 @@ fn serve_wakes(
 
 /// Serves the wakes that are left, ends the lane and adds the last line.
 pub fn finish(stage: &mut Stage, lines: &mut Lines) -> Result<(), OutOfMemory>
+    requires pushers { pushers_in stage.old.lane ≡ 257 }
+    ensures pushers { pushers_in stage.new.lane ≡ 257 }
     ensures settings { stage.new.settings ≡ stage.old.settings }
     ensures room { pushes_in stage.new.lane ≡ pushes_in stage.old.lane }
     ensures records { stage.new.records ≡ stage.old.records }
 {
-    let last = serve_wakes(&mut stage.lane, u64::MAX, stage.time, lines)?;
+    let last = serve_wakes(&mut stage.lane, END_OF_TIME, stage.time, lines)?;
     if let Some(lane) = &mut stage.lane {
         end(lane, last, lines)?;
     }

@@ -1,91 +1,176 @@
--- A state that stands for a history leaves room for its next steps.
-use Rattle.std.proofs.Common.{ℕ, ◌≡◌, ◌+◌, ◌≤◌, ◌<◌, ◌^◌, Option, None, Some, arith, length}
-use Rattle.std.specs.Prelude.{unwrap_or}
+-- A state that has a segment leaves room for its next steps.
+use Rattle.std.proofs.Common.{ℕ, suc, ◌≡◌, ◌+◌, ◌≤◌, ◌<◌, ◌^◌, Bool, true, false, ◌&&◌, not, refl, sym, ap, subst, ◌∙◌, List, [], ◌∷◌, Option, None, Some, arith, length}
+use Rattle.std.specs.Prelude.{unwrap_or, is_some, IsSome, if◌then◌else◌}
 use Rattle.std.specs.Option.{ForSome}
-use Rattle.std.proofs.Props.{props}
-use Rattle.std.proofs.Math.Logic.{∥∥₁_elim}
-use Rattle.std.proofs.lemmas.Int.{ints}
-use Rattle.first_model.specs.declared.SenderClock.{SenderClock}
-use Rattle.first_model.specs.History.{History, next}
-use Rattle.first_model.specs.Accepted.{top, least, accepted}
-use Rattle.first_model.proofs.Numbered.{AreTops, tops, numbered, length-accepted, pushes_most}
-use Rattle.first_model.proofs.Covers.{IsNext, next_le}
-use Rattle.first_model.proofs.Window.{IsWindow, window}
-use Rattle.first_model.proofs.Clocks.{IsClockAfter, clocks}
+use Rattle.std.specs.FinMap as map
+use Rattle.jitter_model.specs.declared.Settings.{Settings}
+use Rattle.jitter_model.specs.declared.Arrival.{Arrival}
+use Rattle.jitter_model.specs.declared.Held.{Held}
+use Rattle.jitter_model.specs.History.{History, is_flushing}
+use Rattle.jitter_model.specs.Accepted.{Taken, top, least, has, opened, accepted}
+use Rattle.jitter_model.specs.Covered.{next, is_out, count_in}
+use Rattle.jitter_model.specs.Verdicts.{is_late}
+use Rattle.jitter_model.specs.Times.{found, heights}
+use Rattle.jitter_model.specs.Runs.{Run}
+use Rattle.jitter_model.proofs.Chain.{split, has-le}
+use Rattle.jitter_model.proofs.Giving.{has-ge, is_some-found}
+use Rattle.jitter_model.proofs.Numbered.{IsNumbered, IsRun, IsOpened, AreTops, tops, numbered, opened_numbered, opened_run, length-accepted, pushes_most}
+use Rattle.jitter_model.proofs.Window.{InWindow, window, out_late}
 use Rattle.jitter_core.specs.declared.state.State.{State}
-use Rattle.jitter_core.specs.Steps.{IsBounded, HasRoom}
-use Rattle.jitter_core.proofs.Lasts.{marks_bounded, kept_to, marks_to}
-use Rattle.jitter_core.specs.Stands.{StandsFor, IsReached}
+use Rattle.jitter_core.specs.Parts.{Placed, Clocked, Marked}
+use Rattle.jitter_core.specs.Steps.{IsBounded}
+use Rattle.jitter_core.specs.Stands.{live, live_next, live_out}
+use Rattle.jitter_core.proofs.Rooted.{IsRooted, rooted, opened_rooted, some_estimate, few_heights, length-skew}
+use Rattle.jitter_core.proofs.Kept.{marks_bounded, kept_to, marks_to, first_small, kept_room}
+use Rattle.jitter_core.proofs.Owed.{IsGiven, all_given}
+
+-- what is known of the accepted packets of a segment
+pub record IsSegment (ps : List Taken) (o : Option ℕ) (out : ℕ → Bool) : Type 0 where
+  pub numbered : IsNumbered ps
+  pub rooted : IsRooted ps
+  pub few : length ps ≤ 2147483648
+  pub window : InWindow (top ps) (least ps) o
+  pub late : (q : ℕ) → out q ≡ true → is_late o q ≡ true
+  pub given : (q : ℕ) → IsGiven ps o out q
+
+pub segment : (s : Settings) (h : History) → Run s h → IsSegment (live h) (live_next h) (live_out h)
+segment s h r =
+    elim (is_flushing h) as (λ b. IsSegment (if b then [] else accepted h) (if b then None else next h) (λ n. not b && is_out h n)) [
+      | true ↦ record { numbered = tt; rooted = tt; few = omega arith; window = record { fact = tt }; late = λ q e. cc; given = λ q. record { fact = λ e l. cc } }
+      | false ↦ record { numbered = numbered s h r; rooted = (rooted s h r).fact; few = omega (arith, length-accepted h, pushes_most s h r); window = window s h r; late = λ q e. out_late s h q r e; given = λ q. record { fact = (all_given s h q r).fact } }
+    ]
+
+length-opened : (run : List Arrival) → length (opened run) ≡ length run
+length-opened [] = refl
+length-opened (a ∷ run) = ap suc (length-opened run)
+
+opened_in : (run : List Arrival) → IsRun run → length run ≤ 5 → InWindow (top (opened run)) (least (opened run)) None
+opened_in [] r few = record { fact = tt }
+opened_in (a ∷ run) r few =
+    let x : IsOpened run a = opened_run run a r in
+    let window : InWindow (Some (x.first + length run)) (Some x.first) None = record { fact = (omega arith, omega arith) } in
+    let with_top : InWindow (top (opened (a ∷ run))) (Some x.first) None = subst (λ (t : Option ℕ). InWindow t (Some x.first) None) (sym x.top_is) window in
+    subst (λ (l : Option ℕ). InWindow (top (opened (a ∷ run))) l None) (sym x.least_is) with_top
+
+pub opened_segment : (run : List Arrival) → IsRun run → length run ≤ 5 → IsSegment (opened run) None (λ q. false)
+opened_segment run r few =
+    record { numbered = opened_numbered run r; rooted = opened_rooted run r; few = omega (arith, length-opened run); window = opened_in run r few; late = λ q e. cc; given = λ q. record { fact = λ e l. cc } }
+
+-- ---- each bound
 
 top_above : (n : ℕ) (t l : Option ℕ) → AreTops n t l → ForSome t (λ t. 32768 ≤ t)
 top_above n None l h x e = cc
 top_above n (Some t) None h x e = absurd h
 top_above n (Some t) (Some l) h x e = let same : t ≡ x = cc in omega arith
 
-top_below : (n : ℕ) (t l : Option ℕ) → AreTops n t l → n ≤ 2147483648 → ForSome t (λ t. t ≤ 2 ^ 62)
+top_below : (n : ℕ) (t l : Option ℕ) → AreTops n t l → n ≤ 2147483648 → ForSome t (λ t. t ≤ 2 ^ 61)
 top_below n None l h few x e = cc
 top_below n (Some t) None h few x e = absurd h
 top_below n (Some t) (Some l) h few x e = let same : t ≡ x = cc in omega arith
 
-least_below : (n : ℕ) (t l : Option ℕ) → AreTops n t l → n ≤ 2147483648 → ForSome l (λ l. l ≤ 2 ^ 62)
+least_below : (n : ℕ) (t l : Option ℕ) → AreTops n t l → n ≤ 2147483648 → ForSome l (λ l. l ≤ 2 ^ 61)
 least_below n t None h few x e = cc
 least_below n None (Some l) h few x e = absurd h
 least_below n (Some t) (Some l) h few x e = let same : l ≡ x = cc in omega arith
 
-next_below : (n : ℕ) (t l o : Option ℕ) → AreTops n t l → n ≤ 2147483648 → IsNext (unwrap_or t 0) o → ForSome o (λ k. k ≤ 2 ^ 62)
-next_below n t l None h few is x e = cc
-next_below n None l (Some k) h few is x e = let same : k ≡ x = cc in omega arith
-next_below n (Some t) None (Some k) h few is x e = absurd h
-next_below n (Some t) (Some l) (Some k) h few is x e = let same : k ≡ x = cc in omega arith
+next_below : (n : ℕ) (t l o : Option ℕ) → AreTops n t l → n ≤ 2147483648 → InWindow t l o → ForSome o (λ k. k ≤ 2 ^ 61)
+next_below n t l None h few w x e = cc
+next_below n None None (Some k) h few w x e = absurd w.fact
+next_below n None (Some l) (Some k) h few w x e = absurd w.fact
+next_below n (Some t) None (Some k) h few w x e = absurd w.fact
+next_below n (Some t) (Some l) (Some k) h few w x e = let same : k ≡ x = cc in let le : k ≤ t + 1 = w.fact.1 in omega arith
 
 top_under : (n : ℕ) (t l : Option ℕ) → AreTops n t l → n ≤ 2147483648 → unwrap_or t 0 ≤ 2 ^ 62
 top_under n None l h few = omega arith
 top_under n (Some t) None h few = absurd h
 top_under n (Some t) (Some l) h few = omega arith
 
-clock_room : (n : ℕ) (o : Option SenderClock) → IsClockAfter n o → n < 2147483648 → ForSome o HasRoom
-clock_room n None h few x e = cc
-clock_room n (Some c) h few x e =
-    let same : c ≡ x = cc in
-    rw (← same) (record { low = omega (arith, ints); high = omega (arith, ints); start_low = h.start_low; start_high = omega (arith, ints) })
+least_to : (n : ℕ) (t l : Option ℕ) → AreTops n t l → unwrap_or l 0 ≤ unwrap_or t 0
+least_to n None None h = omega arith
+least_to n None (Some l) h = absurd h
+least_to n (Some t) None h = absurd h
+least_to n (Some t) (Some l) h = omega arith
 
-pub bounded : (s : State) (h : History) → StandsFor s h → IsBounded s
-bounded s h st =
-    let small : length (accepted h) ≤ 2147483648 = omega (arith, length-accepted h, pushes_most s.settings h st.run) in
-    let are : AreTops (length (accepted h)) (top (accepted h)) (least (accepted h)) = tops (accepted h) (numbered s.settings h st.run) in
-    record {
-      rate = st.valid.rate;
-      above = rw st.order.top_is (top_above _ _ _ are);
-      below = rw st.order.top_is (top_below _ _ _ are small);
-      least = rw st.order.least_is (least_below _ _ _ are small);
-      next = rw st.order.next_is (next_below _ _ _ _ are small (next_le s.settings h st.run));
-      latency = omega (arith, st.valid.latency);
-      marks = rw st.times.marks_are (marks_bounded _ _ (top_under _ _ _ are small) (kept_to _ (next h) _ (marks_to s.settings.rate (accepted h))));
-    }
-
-pub has_room : (s : State) (h : History) → StandsFor s h → s.progress.pushes < 2147483648 → ForSome s.clock HasRoom
-has_room s h st few =
-    let small : length (accepted h) < 2147483648 = omega (arith, length-accepted h, st.order.pushes_are) in
-    rw st.skew.clock_is (clock_room _ _ (clocks (accepted h) (numbered s.settings h st.run)) small)
-
-window_after : (t l o : Option ℕ) → IsWindow t l o → ForSome o (λ n. unwrap_or t 0 ≤ n + 8192)
+window_after : (t l o : Option ℕ) → InWindow t l o → ForSome o (λ n. unwrap_or t 0 < n + 8192)
 window_after t l None w x e = cc
-window_after None l (Some n) w x e = absurd w
-window_after (Some t) l (Some n) w x e = let same : n ≡ x = cc in omega arith
+window_after None None (Some n) w x e = absurd w.fact
+window_after None (Some l) (Some n) w x e = absurd w.fact
+window_after (Some t) None (Some n) w x e = absurd w.fact
+window_after (Some t) (Some l) (Some n) w x e = let same : n ≡ x = cc in let lt : t < n + 8192 = w.fact.0 in omega arith
 
-pub windowed : (s : State) (h : History) → StandsFor s h → ForSome s.progress.next (λ n. unwrap_or s.progress.top 0 ≤ n + 8192)
-windowed s h st = rw (st.order.next_is, st.order.top_is) (window_after (top (accepted h)) (least (accepted h)) (next h) (window s.settings h st.run))
+first_after : (t l o : Option ℕ) → InWindow t l o → o ≡ None → unwrap_or t 0 < unwrap_or l 0 + 8192
+first_after None None o w e = omega arith
+first_after None (Some l) None w e = absurd w.fact
+first_after None (Some l) (Some n) w e = absurd w.fact
+first_after (Some t) None None w e = absurd w.fact
+first_after (Some t) None (Some n) w e = absurd w.fact
+first_after (Some t) (Some l) None w e = w.fact.0
+first_after (Some t) (Some l) (Some n) w e = cc
 
--- each holds of a state that stands for some history
-pub reached_bounded : (s : State) → IsReached s → IsBounded s
-reached_bounded s r = ∥∥₁_elim r (hlevel props) (λ x. bounded s x.0 x.1)
+least_with : (t l o : Option ℕ) → InWindow t l o → is_some l ≡ is_some t
+least_with None None o w = refl
+least_with (Some t) (Some l) o w = refl
+least_with None (Some l) None w = absurd w.fact
+least_with None (Some l) (Some n) w = absurd w.fact
+least_with (Some t) None None w = absurd w.fact
+least_with (Some t) None (Some n) w = absurd w.fact
 
-pub reached_room : (s : State) → IsReached s → s.progress.pushes < 2147483648 → ForSome s.clock HasRoom
-reached_room s r few = ∥∥₁_elim r (hlevel props) (λ x. has_room s x.0 x.1 few)
+next_with : (t l o : Option ℕ) → InWindow t l o → is_some o ≡ true → is_some t ≡ true
+next_with t l None w e = cc
+next_with (Some t) l (Some n) w e = refl
+next_with None None (Some n) w e = absurd w.fact
+next_with None (Some l) (Some n) w e = absurd w.fact
 
-pub reached_window : (s : State) → IsReached s → ForSome s.progress.next (λ n. unwrap_or s.progress.top 0 ≤ n + 8192)
-reached_window s r = ∥∥₁_elim r (hlevel props) (λ x. windowed s x.0 x.1)
+count_few : (out : ℕ → Bool) (ps : List Taken) → count_in out ps ≤ length ps
+count_few out [] = omega arith
+count_few out (p ∷ ps) = split (λ (n : ℕ). n ≤ length (p ∷ ps)) (out p.number) (count_in out ps) (count_in out ps + 1) (λ _. omega (arith, count_few out ps)) (λ _. omega (arith, count_few out ps))
 
--- a call that keeps what a state stands for, with an entry added, keeps that it stands for some history
-pub reached_after : (old new : State) (after : History → History) → ((h : History) → StandsFor old h → StandsFor new (after h)) → IsReached old → IsReached new
-reached_after old new after keeps r = ∥∥₁_elim r (hlevel props) (λ x. ∣ (after x.0, keeps x.0 x.1) ∣₁)
+-- a held packet was accepted and is not out
+some_found : (b : Bool) (o : Option Held) → IsSome (if b then None else o) → (b ≡ false) × (is_some o ≡ true)
+some_found true o e = cc
+some_found false None e = cc
+some_found false (Some x) e = (refl, refl)
+
+pub held_facts : (s : State) (ps : List Taken) (o : Option ℕ) (out : ℕ → Bool) (q : ℕ) → Placed s ps o out → IsSome (map.get s.held q) → (out q ≡ false) × (has ps q ≡ true)
+held_facts s ps o out q p e =
+    let x : (out q ≡ false) × (is_some (found s.settings ps q) ≡ true) = some_found (out q) (found s.settings ps q) (subst (λ (y : Option Held). IsSome y) (p.held_are q) e) in
+    (x.0, sym (is_some-found s.settings ps q) ∙ x.1)
+
+not_late : (ps : List Taken) (o : Option ℕ) (out : ℕ → Bool) (q : ℕ) → IsGiven ps o out q → out q ≡ false → has ps q ≡ true → is_late o q ≡ false
+not_late ps o out q g not_out is =
+    elim (is_late o q) as (λ b. is_late o q ≡ b → is_late o q ≡ false) [
+      | true ↦ λ e. let bad : out q ≡ true = g.fact is e in cc
+      | false ↦ λ e. e
+    ] refl
+
+has_some : (ps : List Taken) (q : ℕ) → has ps q ≡ true → is_some (top ps) ≡ true
+has_some [] q e = cc
+has_some (p ∷ ps) q e = refl
+
+-- a state that has a segment
+pub segment_bounded : (s : State) (ps : List Taken) (o : Option ℕ) (out : ℕ → Bool) → s.progress.latency ≤ 2 ^ 62 → Placed s ps o out → Clocked s ps → Marked s ps o → IsSegment ps o out → IsBounded s
+segment_bounded s ps o out latency p c m g =
+    let are : AreTops (length ps) (top ps) (least ps) = tops ps g.numbered in
+    record {
+      fitted = record { rate = c.rate_is; mode = c.mode_is };
+      latency = latency;
+      above = rw p.top_is (top_above _ _ _ are);
+      below = rw p.top_is (top_below _ _ _ are g.few);
+      least = rw p.least_is (least_below _ _ _ are g.few);
+      next = rw p.next_is (next_below _ _ _ _ are g.few g.window);
+      first = λ t e. first_small s.settings ps t (sym m.first_is ∙ e);
+      window = rw (p.next_is, p.top_is) (window_after _ _ _ g.window);
+      first_window = rw (p.next_is, p.top_is, p.least_is) (first_after _ _ _ g.window);
+      least_known = rw (p.least_is, p.top_is) (least_with _ _ o g.window);
+      next_known = rw (p.next_is, p.top_is) (next_with _ _ _ g.window);
+      count = omega (arith, p.count_is, count_few out ps, g.few);
+      least_top = rw (p.least_is, p.top_is) (least_to _ _ _ are);
+      started = λ e. ap is_some c.stands.estimated ∙ some_estimate s.skew.rate s.skew.mode ps g.rooted (sym (ap is_some p.top_is) ∙ e);
+      few = omega (arith, c.stands.counts, length-skew (heights ps), few_heights ps, g.few);
+      heights = rw m.marks_are (marks_bounded _ _ (top_under _ _ _ are g.few) (kept_to _ o _ (marks_to s.settings ps)));
+      room = rw m.marks_are (kept_room s.settings o ps g.window);
+      held_from = λ q e. let x : (out q ≡ false) × (has ps q ≡ true) = held_facts s ps o out q p e in
+          rw (p.next_is, p.least_is) (not_late ps o out q (g.given q) x.0 x.1, has-ge ps q x.1);
+      held_to = λ q e. let x : (out q ≡ false) × (has ps q ≡ true) = held_facts s ps o out q p e in
+          rw p.top_is (has_some ps q x.1, has-le ps q x.1);
+    }

@@ -1,228 +1,232 @@
--- A push keeps what a state stands for.
-use Rattle.std.proofs.Common.{ℕ, ◌≡◌, ◌+◌, ◌<◌, Bool, true, false, refl, sym, ap, subst, ◌∙◌, List, [], ◌∷◌, Option, None, Some, arith, max}
-use Rattle.std.specs.Prelude.{◌⊎◌, ◌≢◌, is_some, ◌==◌, if◌then◌else◌}
-use Rattle.std.proofs.Common.{⊎_elim}
-use Rattle.std.proofs.lemmas.Bool.{eqb-true}
-use Rattle.std.proofs.lemmas.Grind.{common_steps}
-use Rattle.std.specs.FinMap as map
-use Rattle.first_model.specs.declared.Arrival.{Arrival}
-use Rattle.first_model.specs.declared.Settings.{Settings}
-use Rattle.first_model.specs.declared.Held.{Held}
-use Rattle.first_model.specs.declared.Verdict.{Verdict}
-use Rattle.first_model.specs.declared.Verdict.TheVariants.{Accepted, Far, Late, Duplicate, Full, Ended, Memory}
-use Rattle.first_model.specs.History.{Push, History, pushes, next, has_ended, is_out}
-use Rattle.first_model.specs.Accepted.{Taken, top, least, accepted, has, heights, is_height, number_from, number_of, is_accepted, is_far, is_late, is_full, first_fit, verdict, told_number}
-use Rattle.first_model.specs.Times.{clock, marks, held, find, pts_after}
-use Rattle.first_model.specs.Replies.{Run, IsPush, IsInRange}
-use Rattle.first_model.proofs.Covers.{out_late, is_some-find}
+-- A push keeps what a state stands for, with the push added.
+use Rattle.std.proofs.Common.{ℕ, ◌≡◌, ◌+◌, ◌<◌, Bool, true, false, ◌&&◌, not, refl, sym, ap, subst, ◌∙◌, List, [], ◌∷◌, Option, None, max}
+use Rattle.std.specs.Prelude.{if◌then◌else◌}
+use Rattle.jitter_model.specs.declared.Settings.{Settings}
+use Rattle.jitter_model.specs.declared.Arrival.{Arrival}
+use Rattle.jitter_model.specs.declared.Packet.{Packet}
+use Rattle.jitter_model.specs.declared.Pushed.{Pushed}
+use Rattle.jitter_model.specs.declared.Verdict.{Verdict}
+use Rattle.jitter_model.specs.declared.Verdict.TheVariants.{Accepted, Aside, Restart, Late, Duplicate, Full, Stray, Flushing, Ended}
+use Rattle.jitter_model.specs.declared.Entry.TheVariants.{Push}
+use Rattle.jitter_model.specs.History.{History, is_flushing, is_pusher}
+use Rattle.jitter_model.specs.Accepted.{Taken, joined, opened, run_after, aside, accepted, taken_after, with_taken}
+use Rattle.jitter_model.specs.Covered.{next, is_out, opens}
+use Rattle.jitter_model.specs.Verdicts.{view, verdict, number_of, opened_number, told_number, reply_number, aside_dropped, back_of, pushed}
+use Rattle.jitter_model.specs.Runs.{Run, IsPush, IsInRange}
+use Rattle.jitter_model.proofs.Judged.{IsAccepted, IsAside, IsRestart, says}
+use Rattle.jitter_model.proofs.Numbered.{joined_five, joined_follows}
 use Rattle.jitter_core.specs.declared.state.State.{State}
-use Rattle.jitter_core.specs.Marks.{kept, with_mark}
-use Rattle.jitter_core.specs.Steps.{Accepts, Refuses, IsSame, next_clock, next_mark}
-use Rattle.std.specs.Cmp.{nat_cmp_total, unsigned_tied}
-use Rattle.std.specs.Ordering.{nat_cmp}
-use Rattle.jitter_core.specs.Stands.{StandsFor, Order, IsValid, PushStep, after_push, state_number, state_verdict, ended_flag}
+use Rattle.jitter_core.specs.Asides.{in_order}
+use Rattle.jitter_core.specs.Parts.{Placed, Clocked, Marked}
+use Rattle.jitter_core.specs.Steps.{Accepts, LeavesSegment, run_of, state_number}
+use Rattle.jitter_core.specs.Pushing.{IsOpenedBy, SegmentAfter, PushStep}
+use Rattle.jitter_core.specs.Stands.{live, live_next, live_out, live_aside, Order, StandsFor}
+use Rattle.jitter_core.proofs.Accepting.{placed_accept, clocked_accept, marked_accept}
+use Rattle.jitter_core.proofs.Asides.{run_is}
+use Rattle.jitter_core.proofs.Judging.{placed_now, clocked_now, marked_now, run_now, number_now, not_out, verdict_is}
 
--- the verdict takes no notice of whether a late number was accepted before
-first_fit-among : (s : Settings) (e : Bool) (t l nx : Option ℕ) (n : ℕ) (b c : Bool) → (is_late nx n ≡ false → b ≡ c) → first_fit s e t l nx n b ≡ first_fit s e t l nx n c
-first_fit-among s e t l nx n b c same =
-    let late : Bool = is_late nx n in
-    elim e as (λ e. first_fit s e t l nx n b ≡ first_fit s e t l nx n c) [
-      | true ↦ refl
-      | false ↦ elim (is_far s t nx n) as (λ f. (if f then Far else if is_late nx n then Late else if b then Duplicate else if is_full t l nx n then Full else Accepted) ≡ (if f then Far else if is_late nx n then Late else if c then Duplicate else if is_full t l nx n then Full else Accepted)) [
-        | true ↦ refl
-        | false ↦ elim (is_late nx n) as (λ d. (d ≡ false → b ≡ c) → (if d then Late else if b then Duplicate else if is_full t l nx n then Full else Accepted) ≡ (if d then Late else if c then Duplicate else if is_full t l nx n then Full else Accepted)) [
-          | true ↦ λ _. refl
-          | false ↦ λ k. ap (λ x. if x then Duplicate else if is_full t l nx n then Full else Accepted) (k refl)
-        ] same
-      ]
-    ]
+-- the parts of a segment
+pub record HasSegment (s : State) (ps : List Taken) (o : Option ℕ) (out : ℕ → Bool) : Type 0 where
+  pub placed : Placed s ps o out
+  pub clocked : Clocked s ps
+  pub marked : Marked s ps o
 
--- only a number that isn't late is accepted
-not_late : (s : Settings) (e : Bool) (t l nx : Option ℕ) (n : ℕ) (b : Bool) → first_fit s e t l nx n b ≡ Accepted → is_late nx n ≡ false
-not_late s e t l nx n b h = grind (arith, common_steps)
+-- a call that leaves the segment keeps its parts
+pub leaves : (old new : State) (ps : List Taken) (o : Option ℕ) (out : ℕ → Bool) → new.settings ≡ old.settings → LeavesSegment old new → Placed old ps o out → Clocked old ps → Marked old ps o → HasSegment new ps o out
+leaves old new ps o out same l p c m =
+    record {
+      placed = record { next_is = rw l.span p.next_is; top_is = rw l.span p.top_is; least_is = rw l.span p.least_is; held_are = λ q. rw (l.held, same) (p.held_are q); count_is = rw l.span p.count_is };
+      clocked = record { rate_is = rw (l.skew, same) c.rate_is; mode_is = rw (l.skew, same) c.mode_is; stands = rw l.skew c.stands };
+      marked = record { first_is = rw (l.span, same) m.first_is; marks_are = rw (l.heights, same) m.marks_are };
+    }
 
--- what isn't late is held exactly where it was accepted
-pub held_has : (s : Settings) (h : History) (n : ℕ) → Run s h → is_late (next h) n ≡ false → is_some (held s h n) ≡ has (accepted h) n
-held_has s h n r e =
-    elim (is_out h n) as (λ b. (is_out h n ≡ b) → is_some (if b then None else find s.rate (accepted h) n) ≡ has (accepted h) n) [
-      | true ↦ λ o. let late : is_late (next h) n ≡ true = out_late s h n r o in absurd (let bad : true ≡ false = sym late ∙ e in cc)
-      | false ↦ λ o. is_some-find s.rate (accepted h) n
+pub opens_segment : (new : State) (run : List Arrival) → IsOpenedBy new run → HasSegment new (opened run) None (λ q. false)
+opens_segment new run o = record { placed = o.placed; clocked = o.clocked; marked = o.marked }
+
+-- the push that is added
+abbrev entry : Arrival → Pushed → History → History
+entry a p h = Push a p.verdict p.number p.aside_dropped ∷ h
+
+-- whatever the verdict, it is enough that the segment and the packets put aside are right
+assemble : (old new : State) (h : History) (a : Arrival) (p : Pushed) → StandsFor old h → PushStep old new a p → IsPush old.settings h a p.verdict p.number p.aside_dropped
+    → HasSegment new (live (entry a p h)) (live_next (entry a p h)) (live_out (entry a p h)) → new.aside ≡ in_order (live_aside (entry a p h)) → StandsFor new (entry a p h)
+assemble old new h a p st r is g aside_is =
+    record {
+      built = rw r.settings st.built;
+      run = subst (λ (x : Settings). Run x (entry a p h)) (sym r.settings) (is, st.run);
+      order = record {
+        pushes_are = rw r.progress (ap (λ (k : ℕ). k + 1) st.order.pushes_are);
+        time_is = rw r.progress (ap (λ (k : ℕ). max a.stamp k) st.order.time_is);
+        latency_is = rw (r.progress, r.settings) st.order.latency_is;
+        flushing_is = rw r.progress st.order.flushing_is;
+        ended_long = rw r.progress st.order.ended_long;
+        ended_are = λ q. rw r.progress (st.order.ended_are q);
+        told_is = rw r.progress st.order.told_is;
+        placed = g.placed;
+        aside_is = aside_is;
+      };
+      skew = record { clocked = g.clocked };
+      times = record { marked = g.marked };
+    }
+
+-- ---- while a flush runs
+
+flushing_leaves : (old new : State) (h : History) (a : Arrival) (v : Verdict) → v ≡ verdict old.settings h a → is_flushing h ≡ true → SegmentAfter old a v new → LeavesSegment old new
+flushing_leaves old new h a Accepted e f s = let x : IsAccepted old.settings (view h a) a = says old.settings h a Accepted e in absurd (let bad : is_flushing h ≡ false = x.flushing in cc)
+flushing_leaves old new h a (Restart d) e f s = let x : IsRestart old.settings (view h a) a d = says old.settings h a (Restart d) e in absurd (let bad : is_flushing h ≡ false = x.flushing in cc)
+flushing_leaves old new h a Aside e f s = s
+flushing_leaves old new h a Late e f s = s
+flushing_leaves old new h a Duplicate e f s = s
+flushing_leaves old new h a Full e f s = s
+flushing_leaves old new h a Stray e f s = s
+flushing_leaves old new h a Flushing e f s = s
+flushing_leaves old new h a Ended e f s = s
+
+flushing_aside : (old : State) (h : History) (a : Arrival) (v : Verdict) → v ≡ verdict old.settings h a → is_flushing h ≡ true → run_of old ≡ [] → run_after (run_of old) a v ≡ []
+flushing_aside old h a Aside e f r = let x : IsAside old.settings (view h a) a = says old.settings h a Aside e in absurd (let bad : is_flushing h ≡ false = x.flushing in cc)
+flushing_aside old h a Accepted e f r = let x : IsAccepted old.settings (view h a) a = says old.settings h a Accepted e in absurd (let bad : is_flushing h ≡ false = x.flushing in cc)
+flushing_aside old h a (Restart d) e f r = refl
+flushing_aside old h a Late e f r = let x = says old.settings h a Late e in absurd (let bad : is_flushing h ≡ false = x.0.flushing in cc)
+flushing_aside old h a Duplicate e f r = let x = says old.settings h a Duplicate e in absurd (let bad : is_flushing h ≡ false = x.0.flushing in cc)
+flushing_aside old h a Full e f r = let x = says old.settings h a Full e in absurd (let bad : is_flushing h ≡ false = x.0.flushing in cc)
+flushing_aside old h a Stray e f r = r
+flushing_aside old h a Flushing e f r = r
+flushing_aside old h a Ended e f r = r
+
+flushing_told : (s : Settings) (h : History) (a : Arrival) (v : Verdict) (n m i j : ℕ) → v ≡ verdict s h a → is_flushing h ≡ true → told_number v n i ≡ told_number v m j
+flushing_told s h a Aside n m i j e f = let x : IsAside s (view h a) a = says s h a Aside e in absurd (let bad : is_flushing h ≡ false = x.flushing in cc)
+flushing_told s h a Accepted n m i j e f = let x : IsAccepted s (view h a) a = says s h a Accepted e in absurd (let bad : is_flushing h ≡ false = x.flushing in cc)
+flushing_told s h a (Restart d) n m i j e f = let x : IsRestart s (view h a) a d = says s h a (Restart d) e in absurd (let bad : is_flushing h ≡ false = x.flushing in cc)
+flushing_told s h a Late n m i j e f = let x = says s h a Late e in absurd (let bad : is_flushing h ≡ false = x.0.flushing in cc)
+flushing_told s h a Duplicate n m i j e f = let x = says s h a Duplicate e in absurd (let bad : is_flushing h ≡ false = x.0.flushing in cc)
+flushing_told s h a Full n m i j e f = let x = says s h a Full e in absurd (let bad : is_flushing h ≡ false = x.0.flushing in cc)
+flushing_told s h a Stray n m i j e f = refl
+flushing_told s h a Flushing n m i j e f = refl
+flushing_told s h a Ended n m i j e f = refl
+
+flushing_dropped : (s : Settings) (h : History) (a : Arrival) (v : Verdict) (xs ys : List Arrival) → v ≡ verdict s h a → is_flushing h ≡ true → aside_dropped xs a v ≡ aside_dropped ys a v
+flushing_dropped s h a Aside xs ys e f = let x : IsAside s (view h a) a = says s h a Aside e in absurd (let bad : is_flushing h ≡ false = x.flushing in cc)
+flushing_dropped s h a Accepted xs ys e f = let x : IsAccepted s (view h a) a = says s h a Accepted e in absurd (let bad : is_flushing h ≡ false = x.flushing in cc)
+flushing_dropped s h a (Restart d) xs ys e f = refl
+flushing_dropped s h a Late xs ys e f = let x = says s h a Late e in absurd (let bad : is_flushing h ≡ false = x.0.flushing in cc)
+flushing_dropped s h a Duplicate xs ys e f = let x = says s h a Duplicate e in absurd (let bad : is_flushing h ≡ false = x.0.flushing in cc)
+flushing_dropped s h a Full xs ys e f = let x = says s h a Full e in absurd (let bad : is_flushing h ≡ false = x.0.flushing in cc)
+flushing_dropped s h a Stray xs ys e f = refl
+flushing_dropped s h a Flushing xs ys e f = refl
+flushing_dropped s h a Ended xs ys e f = refl
+
+run_in_flush : (s : State) (h : History) → Order s h → is_flushing h ≡ true → run_of s ≡ []
+run_in_flush s h o e = run_is s.aside (live_aside h) o.aside_is ∙ rw e refl
+
+flushing_segment : (new : State) (h : History) (a : Arrival) (p : Pushed) → is_flushing h ≡ true → HasSegment new (live h) (live_next h) (live_out h) → HasSegment new (live (entry a p h)) (live_next (entry a p h)) (live_out (entry a p h))
+flushing_segment new h a p e g =
+    subst (λ (b : Bool). HasSegment new (if b then [] else taken_after (accepted h) (aside h) a p.verdict) (if b then None else if opens p.verdict then None else next h) (λ n. not b && (not (opens p.verdict) && is_out h n))) (sym e)
+    (subst (λ (b : Bool). HasSegment new (if b then [] else accepted h) (if b then None else next h) (λ n. not b && is_out h n)) e g)
+
+push_in_flush : (old new : State) (h : History) (a : Arrival) (p : Pushed) → StandsFor old h → PushStep old new a p → IsPush old.settings h a p.verdict p.number p.aside_dropped → is_flushing h ≡ true → StandsFor new (entry a p h)
+push_in_flush old new h a p st r is e =
+    assemble old new h a p st r is
+    (flushing_segment new h a p e (leaves old new (live h) (live_next h) (live_out h) r.settings (flushing_leaves old new h a p.verdict is.verdict_is e r.segment) st.order.placed st.skew.clocked st.times.marked))
+    (rw e (r.aside ∙ ap in_order (flushing_aside old h a p.verdict is.verdict_is e (run_in_flush old h st.order e))))
+
+-- ---- outside a flush
+
+-- the segment after a push with this verdict
+abbrev IsAfter : State → History → Arrival → Verdict → Type 0
+IsAfter new h a v = HasSegment new (taken_after (accepted h) (aside h) a v) (if opens v then None else next h) (λ q. not (opens v) && is_out h q)
+
+record After (new : State) (h : History) (a : Arrival) (v : Verdict) : Type 0 where
+  fact : IsAfter new h a v
+
+left_alone : (old new : State) (h : History) → new.settings ≡ old.settings → LeavesSegment old new → HasSegment old (accepted h) (next h) (is_out h) → HasSegment new (accepted h) (next h) (is_out h)
+left_alone old new h same l g = leaves old new (accepted h) (next h) (is_out h) same l g.placed g.clocked g.marked
+
+accepted_after : (old new : State) (h : History) (a : Arrival) → Run old.settings h → new.settings ≡ old.settings → Accepted ≡ verdict old.settings h a → Accepts old new a (state_number old a) → HasSegment old (accepted h) (next h) (is_out h) → HasSegment new (with_taken (accepted h) a) (next h) (is_out h)
+accepted_after old new h a r same e acc g =
+    let x : IsAccepted old.settings (view h a) a = says old.settings h a Accepted e in
+    record {
+      placed = placed_accept old new (accepted h) (next h) (is_out h) a same g.placed g.clocked g.marked acc (not_out old.settings h (number_of h a) r x.late);
+      clocked = clocked_accept old new (accepted h) (next h) a same g.placed.top_is g.clocked g.marked acc;
+      marked = marked_accept old new (accepted h) (next h) a same g.placed.next_is g.placed.top_is g.clocked g.marked acc;
+    }
+
+restarted_after : (old new : State) (h : History) (a : Arrival) (d : ℕ) → Restart d ≡ verdict old.settings h a → run_of old ≡ aside h → IsOpenedBy new (a ∷ run_of old) → HasSegment new (opened (joined (aside h) a)) None (λ q. false)
+restarted_after old new h a d e run o =
+    let x : IsRestart old.settings (view h a) a d = says old.settings h a (Restart d) e in
+    let all : a ∷ run_of old ≡ joined (aside h) a = ap (λ (run : List Arrival). a ∷ run) run ∙ sym (joined_follows (aside h) a (joined_five (aside h) a x.run)) in
+    opens_segment new (joined (aside h) a) (subst (λ (run : List Arrival). IsOpenedBy new run) all o)
+
+segment_after : (old new : State) (h : History) (a : Arrival) (v : Verdict) → Run old.settings h → new.settings ≡ old.settings → v ≡ verdict old.settings h a → run_of old ≡ aside h → SegmentAfter old a v new → HasSegment old (accepted h) (next h) (is_out h) → After new h a v
+segment_after old new h a Accepted r same e run s g = record { fact = accepted_after old new h a r same e s g }
+segment_after old new h a (Restart d) r same e run s g = record { fact = restarted_after old new h a d e run s }
+segment_after old new h a Aside r same e run s g = record { fact = left_alone old new h same s g }
+segment_after old new h a Late r same e run s g = record { fact = left_alone old new h same s g }
+segment_after old new h a Duplicate r same e run s g = record { fact = left_alone old new h same s g }
+segment_after old new h a Full r same e run s g = record { fact = left_alone old new h same s g }
+segment_after old new h a Stray r same e run s g = record { fact = left_alone old new h same s g }
+segment_after old new h a Flushing r same e run s g = record { fact = left_alone old new h same s g }
+segment_after old new h a Ended r same e run s g = record { fact = left_alone old new h same s g }
+
+open_segment : (new : State) (h : History) (a : Arrival) (p : Pushed) → is_flushing h ≡ false → IsAfter new h a p.verdict → HasSegment new (live (entry a p h)) (live_next (entry a p h)) (live_out (entry a p h))
+open_segment new h a p e g =
+    subst (λ (b : Bool). HasSegment new (if b then [] else taken_after (accepted h) (aside h) a p.verdict) (if b then None else if opens p.verdict then None else next h) (λ n. not b && (not (opens p.verdict) && is_out h n))) (sym e) g
+
+push_outside : (old new : State) (h : History) (a : Arrival) (p : Pushed) → StandsFor old h → PushStep old new a p → IsPush old.settings h a p.verdict p.number p.aside_dropped → is_flushing h ≡ false → StandsFor new (entry a p h)
+push_outside old new h a p st r is e =
+    let run : run_of old ≡ aside h = run_now old h st.order e in
+    let g : HasSegment old (accepted h) (next h) (is_out h) = record { placed = placed_now old h e st.order.placed; clocked = clocked_now old h e st.skew.clocked; marked = marked_now old h e st.times.marked } in
+    assemble old new h a p st r is
+    (open_segment new h a p e (segment_after old new h a p.verdict st.run r.settings is.verdict_is run r.segment g).fact)
+    (rw e (r.aside ∙ ap (λ (xs : List Arrival). in_order (run_after xs a p.verdict)) run))
+
+-- ---- all pushes
+
+-- the parts of the answer that the history defines
+number_told : (old : State) (h : History) (a : Arrival) (v : Verdict) → StandsFor old h → v ≡ verdict old.settings h a → told_number v (state_number old a) (opened_number (run_of old) a) ≡ reply_number h a v
+number_told old h a v st e =
+    elim (is_flushing h) as (λ b. is_flushing h ≡ b → told_number v (state_number old a) (opened_number (run_of old) a) ≡ reply_number h a v) [
+      | true ↦ λ f. flushing_told old.settings h a v _ _ _ _ e f
+      | false ↦ λ f. ap (λ (n : ℕ). told_number v n (opened_number (run_of old) a)) (number_now old h a (placed_now old h f st.order.placed))
+          ∙ ap (λ (run : List Arrival). told_number v (number_of h a) (opened_number run a)) (run_now old h st.order f)
     ] refl
 
-ended_is : (s : State) (h : History) (pusher : ℕ) → Order s h → ((pusher ≡ 0) ⊎ (pusher ≡ 8)) → ended_flag s.progress pusher ≡ has_ended h pusher
-ended_is s h pusher o p = ⊎_elim (λ e. rw e o.session_is) (λ e. rw e o.control_is) p
+dropped_told : (old : State) (h : History) (a : Arrival) (v : Verdict) → StandsFor old h → v ≡ verdict old.settings h a → aside_dropped (run_of old) a v ≡ aside_dropped (aside h) a v
+dropped_told old h a v st e =
+    elim (is_flushing h) as (λ b. is_flushing h ≡ b → aside_dropped (run_of old) a v ≡ aside_dropped (aside h) a v) [
+      | true ↦ λ f. flushing_dropped old.settings h a v _ _ e f
+      | false ↦ λ f. ap (λ (run : List Arrival). aside_dropped run a v) (run_now old h st.order f)
+    ] refl
 
-verdict_is : (s : State) (h : History) (a : Arrival) → StandsFor s h → ((a.pusher ≡ 0) ⊎ (a.pusher ≡ 8)) → state_verdict s a ≡ verdict s.settings h a
-verdict_is s h a st p =
-    let n : ℕ = number_of h a in
-    ap (λ t. first_fit s.settings (ended_flag s.progress a.pusher) t s.progress.least s.progress.next (number_from t a.packet.seq) (is_some (map.get s.held (number_from t a.packet.seq)))) st.order.top_is
-    ∙ ap (λ l. first_fit s.settings (ended_flag s.progress a.pusher) (top (accepted h)) l s.progress.next (number_of h a) (is_some (map.get s.held (number_of h a)))) st.order.least_is
-    ∙ ap (λ x. first_fit s.settings (ended_flag s.progress a.pusher) (top (accepted h)) (least (accepted h)) x (number_of h a) (is_some (map.get s.held (number_of h a)))) st.order.next_is
-    ∙ ap (λ e. first_fit s.settings e (top (accepted h)) (least (accepted h)) (next h) (number_of h a) (is_some (map.get s.held (number_of h a)))) (ended_is s h a.pusher st.order p)
-    ∙ ap (λ o. first_fit s.settings (has_ended h a.pusher) (top (accepted h)) (least (accepted h)) (next h) (number_of h a) (is_some o)) (st.order.held_are (number_of h a))
-    ∙ first_fit-among s.settings (has_ended h a.pusher) (top (accepted h)) (least (accepted h)) (next h) (number_of h a) _ _ (held_has s.settings h (number_of h a) st.run)
-
-number_is : (s : State) (h : History) (a : Arrival) → Order s h → state_number s a ≡ number_of h a
-number_is s h a o = ap (λ t. number_from t a.packet.seq) o.top_is
-
-refuse_keeps : (old new : State) (h : History) (a : Arrival) (v : Verdict) (n : ℕ) → is_accepted v ≡ false → StandsFor old h → Refuses old new a → IsPush old.settings h a v n → StandsFor new (Push a v n ∷ h)
-refuse_keeps old new h a v n e st r p =
+push_entry : (old new : State) (h : History) (a : Arrival) (p : Pushed) → StandsFor old h → PushStep old new a p → old.progress.pushes < 2147483648 → IsInRange a → is_pusher old.settings.pushers a.pusher ≡ true → IsPush old.settings h a p.verdict p.number p.aside_dropped
+push_entry old new h a p st r few range pusher =
+    let is : p.verdict ≡ verdict old.settings h a = r.verdict ∙ verdict_is old h a st in
     record {
-      valid = rw r.settings st.valid;
-      run = subst (λ x. Run x (Push a v n ∷ h)) (sym r.settings) (p, st.run);
-      order = record {
-        pushes_are = rw r.progress (ap (λ k. k + 1) st.order.pushes_are);
-        time_is = rw r.progress (ap (λ k. max a.stamp k) st.order.time_is);
-        next_is = rw r.progress st.order.next_is;
-        top_is = rw (r.progress, e) st.order.top_is;
-        least_is = rw (r.progress, e) st.order.least_is;
-        held_are = λ q. rw (r.held, r.settings, e) (st.order.held_are q);
-        session_is = rw r.progress st.order.session_is;
-        control_is = rw r.progress st.order.control_is;
-        end_is = rw r.progress st.order.end_is;
-      };
-      skew = record { clock_is = rw (r.clock, e) st.skew.clock_is };
-      times = record { marks_are = rw (r.marks, r.settings, e) st.times.marks_are };
+      pusher = pusher;
+      few = rw (← st.order.pushes_are) few;
+      in_range = range;
+      verdict_is = is;
+      number_is = r.number ∙ number_told old h a p.verdict st is;
+      dropped_is = r.dropped ∙ dropped_told old h a p.verdict st is;
     }
 
-if_out : {A B : Type 0} (f : A → B) (b : Bool) (x y : A) → f (if b then x else y) ≡ (if b then f x else f y)
-if_out f true x y = refl
-if_out f false x y = refl
+pub push_keeps : (old new : State) (h : History) (a : Arrival) (p : Pushed) → StandsFor old h → PushStep old new a p → old.progress.pushes < 2147483648 → IsInRange a → is_pusher old.settings.pushers a.pusher ≡ true → StandsFor new (entry a p h)
+push_keeps old new h a p st r few range pusher =
+    let is : IsPush old.settings h a p.verdict p.number p.aside_dropped = push_entry old new h a p st r few range pusher in
+    elim (is_flushing h) as (λ b. is_flushing h ≡ b → StandsFor new (entry a p h)) [
+      | true ↦ λ e. push_in_flush old new h a p st r is e
+      | false ↦ λ e. push_outside old new h a p st r is e
+    ] refl
 
--- the packet that is accepted, with its number
-abbrev taken : History → Arrival → Taken
-taken h a = record { number = number_of h a; arrival = a }
+same_answer : (p : Pushed) (n d : ℕ) (b : Option Packet) → p.number ≡ n → p.back ≡ b → p.aside_dropped ≡ d → p ≡ record { verdict = p.verdict; number = n; back = b; aside_dropped = d }
+same_answer p n d b number back dropped =
+    ap (λ (x : ℕ). record p { number = x }) number
+    ∙ ap (λ (x : Option Packet). record p { number = n; back = x }) back
+    ∙ ap (λ (x : ℕ). record p { number = n; back = b; aside_dropped = x }) dropped
 
--- the clock after it
-next_clock_is : (ps : List Taken) (p : Taken) → next_clock (top ps) (clock (heights ps)) p.arrival p.number ≡ clock (heights (p ∷ ps))
-next_clock_is ps p = sym (if_out clock (is_height ps p) (p ∷ heights ps) (heights ps))
-
--- the marks after it
-marks_after : (rate : ℕ) (nx : Option ℕ) (ps : List Taken) (p : Taken) → with_mark nx (next_mark rate (top ps) (clock (heights ps)) p.arrival p.number) (kept nx (marks rate ps)) ≡ kept nx (marks rate (p ∷ ps))
-marks_after rate nx ps p =
-    elim (is_height ps p) as (λ b. with_mark nx (if b then Some (record { number = p.number; pts = pts_after rate ps p }) else None) (kept nx (marks rate ps)) ≡ kept nx (if b then record { number = p.number; pts = pts_after rate ps p } ∷ marks rate ps else marks rate ps)) [
-      | true ↦ refl
-      | false ↦ refl
-    ]
-
-swap_ifs : {A : Type 0} (b o : Bool) (x y z : A) → (b ≡ true → o ≡ false) → (if b then x else if o then y else z) ≡ (if o then y else if b then x else z)
-swap_ifs true true x y z h = absurd (let bad : true ≡ false = h refl in cc)
-swap_ifs true false x y z h = refl
-swap_ifs false o x y z h = refl
-
--- what is held after it
-held_after : (s : Settings) (h : History) (a : Arrival) (m : map.FinMap nat_cmp Held) (q : ℕ) → ((n : ℕ) → map.get m n ≡ held s h n) → is_out h (number_of h a) ≡ false
-    → map.get (map.insert m (number_of h a) (record { pts = pts_after s.rate (accepted h) (taken h a); packet = a.packet })) q ≡ held s (Push a Accepted (number_of h a) ∷ h) q
-held_after s h a m q are out =
-    let n : ℕ = number_of h a in
-    let x : Held = record { pts = pts_after s.rate (accepted h) (taken h a); packet = a.packet } in
-    map.get-insert nat_cmp_total m (number_of h a) x q
-    ∙ ap (λ b. if b then Some x else map.get m q) (unsigned_tied q (number_of h a))
-    ∙ ap (λ o. if q == number_of h a then Some x else o) (are q)
-    ∙ swap_ifs (q == number_of h a) (is_out h q) (Some x) None (find s.rate (accepted h) q) (λ e. rw (eqb-true q (number_of h a) e) out)
-
-accept_keeps : (old new : State) (h : History) (a : Arrival) → StandsFor old h → Accepts old new a (state_number old a) → IsPush old.settings h a Accepted (number_of h a) → StandsFor new (Push a Accepted (number_of h a) ∷ h)
-accept_keeps old new h a st r p =
-    let late : is_late (next h) (number_of h a) ≡ false = not_late old.settings (has_ended h a.pusher) (top (accepted h)) (least (accepted h)) (next h) (number_of h a) (has (accepted h) (number_of h a)) (sym p.verdict_is) in
-    let out : is_out h (number_of h a) ≡ false =
-    elim (is_out h (number_of h a)) as (λ b. is_out h (number_of h a) ≡ b → b ≡ false) [
-      | true ↦ λ o. sym (out_late old.settings h (number_of h a) st.run o) ∙ late
-      | false ↦ λ o. refl
-    ] refl in
-    record {
-      valid = rw r.settings st.valid;
-      run = subst (λ x. Run x (Push a Accepted (number_of h a) ∷ h)) (sym r.settings) (p, st.run);
-      order = record {
-        pushes_are = rw r.progress (ap (λ k. k + 1) st.order.pushes_are);
-        time_is = rw r.progress (ap (λ k. max a.stamp k) st.order.time_is);
-        next_is = rw r.progress st.order.next_is;
-        top_is = rw (r.progress, st.order.top_is) refl;
-        least_is = rw (r.progress, st.order.top_is, st.order.least_is) refl;
-        held_are = λ q. subst (λ x. map.get new.held q ≡ held x (Push a Accepted (number_of h a) ∷ h) q) (sym r.settings) (rw (r.held, st.order.top_is, st.skew.clock_is) (held_after old.settings h a old.held q st.order.held_are out));
-        session_is = rw r.progress st.order.session_is;
-        control_is = rw r.progress st.order.control_is;
-        end_is = rw r.progress st.order.end_is;
-      };
-      skew = record { clock_is = rw (r.clock, st.order.top_is, st.skew.clock_is) (next_clock_is (accepted h) (taken h a)) };
-      times = record { marks_are = subst (λ x. new.marks.items ≡ kept (next h) (marks x.rate (taken h a ∷ accepted h))) (sym r.settings) (rw (r.marks, st.order.next_is, st.order.top_is, st.skew.clock_is, st.times.marks_are) (marks_after old.settings.rate (next h) (accepted h) (taken h a))) };
-    }
-
-pub same_keeps : (old new : State) (h : History) → StandsFor old h → IsSame old new → StandsFor new h
-same_keeps old new h st r =
-    record {
-      valid = rw r.settings st.valid;
-      run = subst (λ x. Run x h) (sym r.settings) st.run;
-      order = record {
-        pushes_are = rw r.progress st.order.pushes_are;
-        time_is = rw r.progress st.order.time_is;
-        next_is = rw r.progress st.order.next_is;
-        top_is = rw r.progress st.order.top_is;
-        least_is = rw r.progress st.order.least_is;
-        held_are = λ q. rw (r.held, r.settings) (st.order.held_are q);
-        session_is = rw r.progress st.order.session_is;
-        control_is = rw r.progress st.order.control_is;
-        end_is = rw r.progress st.order.end_is;
-      };
-      skew = record { clock_is = rw r.clock st.skew.clock_is };
-      times = record { marks_are = rw (r.marks, r.settings) st.times.marks_are };
-    }
-
--- a push keeps what the state stands for, with the push added
-pub push_keeps : (old new : State) (h : History) (a : Arrival) (v : Verdict) (n : ℕ) → StandsFor old h → old.progress.pushes < 2147483648 → IsInRange a → ((a.pusher ≡ 0) ⊎ (a.pusher ≡ 8)) → n ≡ told_number v (state_number old a) → PushStep old a v new → StandsFor new (after_push a v n h)
-push_keeps old new h a v n st few range p told step =
-    let is : state_verdict old a ≡ verdict old.settings h a = verdict_is old h a st p in
-    let room : pushes h < 2147483648 = rw (← st.order.pushes_are) few in
-    let number : n ≡ told_number v (number_of h a) = told ∙ ap (told_number v) (number_is old h a st.order) in
-    elim v as (λ v. n ≡ told_number v (number_of h a) → PushStep old a v new → StandsFor new (after_push a v n h)) [
-      | Accepted ↦ λ number step. rw number (accept_keeps old new h a st step.1 (record { verdict_is = sym step.0 ∙ is; number_is = refl; few = room; in_range = range }))
-      | Far ↦ λ number step. refuse_keeps old new h a Far n refl st step.1 (record { verdict_is = sym step.0 ∙ is; number_is = number; few = room; in_range = range })
-      | Late ↦ λ number step. refuse_keeps old new h a Late n refl st step.1 (record { verdict_is = sym step.0 ∙ is; number_is = number; few = room; in_range = range })
-      | Duplicate ↦ λ number step. refuse_keeps old new h a Duplicate n refl st step.1 (record { verdict_is = sym step.0 ∙ is; number_is = number; few = room; in_range = range })
-      | Full ↦ λ number step. refuse_keeps old new h a Full n refl st step.1 (record { verdict_is = sym step.0 ∙ is; number_is = number; few = room; in_range = range })
-      | Ended ↦ λ number step. refuse_keeps old new h a Ended n refl st step.1 (record { verdict_is = sym step.0 ∙ is; number_is = number; few = room; in_range = range })
-      | Memory ↦ λ number step. same_keeps old new h st step
-    ] number step
-
--- nothing was pushed yet
-pub record IsEmpty (s : State) : Type 0 where
-  pub pushes : s.progress.pushes ≡ 0
-  pub time : s.progress.time ≡ 0
-  pub next : s.progress.next ≡ None
-  pub top : s.progress.top ≡ None
-  pub least : s.progress.least ≡ None
-  pub held : s.held ≡ map.empty
-  pub session_ended : s.progress.session_ended ≡ false
-  pub control_ended : s.progress.control_ended ≡ false
-  pub end_told : s.progress.end_told ≡ false
-  pub clock : s.clock ≡ None
-  pub marks : s.marks.items ≡ []
-
--- a state that is empty stands for the empty history
-pub empty_stands : (s : State) → IsValid s.settings → IsEmpty s → StandsFor s []
-empty_stands s v e =
-    record {
-      valid = v;
-      run = tt;
-      order = record {
-        pushes_are = e.pushes;
-        time_is = e.time;
-        next_is = e.next;
-        top_is = e.top;
-        least_is = e.least;
-        held_are = λ n. rw e.held (map.get-empty nat_cmp n);
-        session_is = e.session_ended;
-        control_is = e.control_ended;
-        end_is = e.end_told;
-      };
-      skew = record { clock_is = e.clock };
-      times = record { marks_are = e.marks };
-    }
-
-pub push_verdict : (old new : State) (h : History) (a : Arrival) (v : Verdict) → StandsFor old h → ((a.pusher ≡ 0) ⊎ (a.pusher ≡ 8)) → PushStep old a v new → v ≢ Memory → v ≡ verdict old.settings h a
-push_verdict old new h a Accepted st p step other = sym step.0 ∙ verdict_is old h a st p
-push_verdict old new h a Far st p step other = sym step.0 ∙ verdict_is old h a st p
-push_verdict old new h a Late st p step other = sym step.0 ∙ verdict_is old h a st p
-push_verdict old new h a Duplicate st p step other = sym step.0 ∙ verdict_is old h a st p
-push_verdict old new h a Full st p step other = sym step.0 ∙ verdict_is old h a st p
-push_verdict old new h a Ended st p step other = sym step.0 ∙ verdict_is old h a st p
-push_verdict old new h a Memory st p step other = absurd (other refl)
+pub push_value : (old new : State) (h : History) (a : Arrival) (p : Pushed) → StandsFor old h → PushStep old new a p → p ≡ pushed old.settings h a
+push_value old new h a p st r =
+    let is : p.verdict ≡ verdict old.settings h a = r.verdict ∙ verdict_is old h a st in
+    let number : p.number ≡ reply_number h a p.verdict = r.number ∙ number_told old h a p.verdict st is in
+    let dropped : p.aside_dropped ≡ aside_dropped (aside h) a p.verdict = r.dropped ∙ dropped_told old h a p.verdict st is in
+    let all : p ≡ record { verdict = p.verdict; number = reply_number h a p.verdict; back = back_of p.verdict a.packet; aside_dropped = aside_dropped (aside h) a p.verdict } = same_answer p (reply_number h a p.verdict) (aside_dropped (aside h) a p.verdict) (back_of p.verdict a.packet) number r.back dropped in
+    all ∙ ap (λ (v : Verdict). record { verdict = v; number = reply_number h a v; back = back_of v a.packet; aside_dropped = aside_dropped (aside h) a v }) is

@@ -1,123 +1,260 @@
 -- A turn keeps what a state stands for, with the turn added.
-use Rattle.std.proofs.Common.{ℕ, ◌≡◌, ◌+◌, Bool, true, false, ◌||◌, refl, sym, ap, subst, ◌∙◌, ◌∷◌, Option, None, Some, arith}
-use Rattle.std.specs.Prelude.{unwrap_or, ◌==◌, if◌then◌else◌}
+use Rattle.std.proofs.Common.{ℕ, ◌≡◌, ◌+◌, ◌-◌, ◌<◌, Bool, true, false, ◌||◌, ◌&&◌, not, refl, sym, ap, subst, ◌∙◌, List, [], ◌∷◌, Option, None, Some, arith}
+use Rattle.std.specs.Prelude.{is_some, ◌==◌, if◌then◌else◌}
+use Rattle.std.proofs.lemmas.Grind.{common_steps}
 use Rattle.std.specs.FinMap as map
 use Rattle.std.specs.Cmp.{nat_cmp_total, unsigned_tied}
 use Rattle.std.specs.Ordering.{nat_cmp}
-use Rattle.first_model.specs.declared.Settings.{Settings}
-use Rattle.first_model.specs.declared.Held.{Held}
-use Rattle.first_model.specs.declared.Turn.{Turn}
-use Rattle.first_model.specs.declared.Turn.TheVariants.{Packet, Lost, End, Idle}
-use Rattle.first_model.specs.History.{Turned, History, next, is_out, covered, is_end, end_told}
-use Rattle.first_model.specs.Accepted.{top, least, accepted}
-use Rattle.first_model.specs.Times.{marks, held, find}
-use Rattle.first_model.specs.Replies.{Run, turn}
-use Rattle.first_model.proofs.Covers.{Covers, covers}
+use Rattle.jitter_model.specs.declared.Settings.{Settings}
+use Rattle.jitter_model.specs.declared.Held.{Held}
+use Rattle.jitter_model.specs.declared.Packet.{Packet as PacketType}
+use Rattle.jitter_model.specs.declared.Turn.{Turn}
+use Rattle.jitter_model.specs.declared.Turn.TheVariants.{Packet, Lost, Request, End, Idle, Flushing}
+use Rattle.jitter_model.specs.declared.Entry.TheVariants.{Turned}
+use Rattle.jitter_model.specs.History.{History, latency, is_flushing, is_end, end_told}
+use Rattle.jitter_model.specs.Accepted.{Taken, has, accepted}
+use Rattle.jitter_model.specs.Covered.{next, is_out, count_in}
+use Rattle.jitter_model.specs.Verdicts.{is_late}
+use Rattle.jitter_model.specs.Times.{marks, found}
+use Rattle.jitter_model.specs.Turns.{Sight, sight, turn, is_quiet}
+use Rattle.jitter_model.specs.Runs.{Run}
+use Rattle.jitter_model.proofs.Chain.{split}
+use Rattle.jitter_model.proofs.Covers.{Covers, covers}
+use Rattle.jitter_model.proofs.Giving.{given, is_some-found}
+use Rattle.jitter_model.proofs.Numbered.{IsDistinct, distinct}
+use Rattle.jitter_core.specs.declared.state.Progress.{Progress}
+use Rattle.jitter_core.specs.declared.state.Span.{Span}
 use Rattle.jitter_core.specs.declared.state.State.{State}
 use Rattle.jitter_core.specs.Marks.{kept}
-use Rattle.jitter_core.specs.Stands.{StandsFor}
-use Rattle.jitter_core.specs.Turns.{state_turn, TurnDoes}
-use Rattle.first_model.specs.Replies.{is_idle}
-use Rattle.jitter_core.specs.declared.state.Progress.{Progress}
-use Rattle.jitter_core.proofs.Pushes.{same_keeps}
-use Rattle.jitter_core.proofs.Given.{turn_is, kept_kept, IsBelow}
+use Rattle.jitter_core.specs.Parts.{Placed, Clocked, Marked}
+use Rattle.jitter_core.specs.Steps.{LeavesSegment, IsSame}
+use Rattle.jitter_core.specs.Turning.{state_sight, plain_turn, Gives, Loses, TurnDoes}
+use Rattle.jitter_core.specs.Stands.{live, live_next, live_out, StandsFor}
+use Rattle.jitter_core.proofs.Agreeing.{turn_is, flushing_turn}
+use Rattle.jitter_core.proofs.Judging.{placed_now, clocked_now, marked_now, not_out}
+use Rattle.jitter_core.proofs.Kept.{IsBelow, kept_kept}
+use Rattle.jitter_core.proofs.Pushes.{HasSegment, leaves}
 
-covers_below : (t l : ℕ) (o : Option ℕ) (n pts : ℕ) (p : _) → Covers t l o (Packet n pts p) → IsBelow o (n + 1)
-covers_below t l None n pts p c = tt
-covers_below t l (Some k) n pts p c = omega arith
+-- ---- quiet turns
 
-loses_below : (t l : ℕ) (o : Option ℕ) (n count pts d : ℕ) → Covers t l o (Lost n count pts d) → IsBelow o (n + count)
-loses_below t l None n count pts d c = tt
-loses_below t l (Some k) n count pts d c = omega arith
+-- a call that changes nothing keeps all
+pub same_keeps : (old new : State) (h : History) → StandsFor old h → IsSame old new → StandsFor new h
+same_keeps old new h st r =
+    let g : HasSegment new (live h) (live_next h) (live_out h) = leaves old new (live h) (live_next h) (live_out h) r.settings r.segment st.order.placed st.skew.clocked st.times.marked in
+    record {
+      built = rw r.settings st.built;
+      run = subst (λ (x : Settings). Run x h) (sym r.settings) st.run;
+      order = record {
+        pushes_are = rw r.progress st.order.pushes_are;
+        time_is = rw r.progress st.order.time_is;
+        latency_is = rw (r.progress, r.settings) st.order.latency_is;
+        flushing_is = rw r.progress st.order.flushing_is;
+        ended_long = rw r.progress st.order.ended_long;
+        ended_are = λ q. rw r.progress (st.order.ended_are q);
+        told_is = rw r.progress st.order.told_is;
+        placed = g.placed;
+        aside_is = rw r.aside st.order.aside_is;
+      };
+      skew = record { clocked = g.clocked };
+      times = record { marked = g.marked };
+    }
+
+-- a turn that leaves time, pushes and pushers alone; it is enough that the segment is right
+record Alone (old new : State) : Type 0 where
+  settings : new.settings ≡ old.settings
+  pushes : new.progress.pushes ≡ old.progress.pushes
+  time : new.progress.time ≡ old.progress.time
+  latency : new.progress.latency ≡ old.progress.latency
+  flushing : new.progress.flushing ≡ old.progress.flushing
+  ended : new.progress.ended ≡ old.progress.ended
+  aside : new.aside ≡ old.aside
+
+alone : (old new : State) → new.settings ≡ old.settings → new.progress ≡ old.progress → new.aside ≡ old.aside → Alone old new
+alone old new s p a =
+    record { settings = s; pushes = ap (λ (x : Progress). x.pushes) p; time = ap (λ (x : Progress). x.time) p; latency = ap (λ (x : Progress). x.latency) p; flushing = ap (λ (x : Progress). x.flushing) p; ended = ap (λ (x : Progress). x.ended) p; aside = a }
+
+assemble : (old new : State) (h : History) (r : Turn) → StandsFor old h → r ≡ turn old.settings h → Alone old new → new.progress.end_told ≡ (is_end r || end_told h)
+    → HasSegment new (live (Turned r ∷ h)) (live_next (Turned r ∷ h)) (live_out (Turned r ∷ h)) → StandsFor new (Turned r ∷ h)
+assemble old new h r st is a told g =
+    record {
+      built = rw a.settings st.built;
+      run = subst (λ (x : Settings). Run x (Turned r ∷ h)) (sym a.settings) (is, st.run);
+      order = record {
+        pushes_are = a.pushes ∙ st.order.pushes_are;
+        time_is = a.time ∙ st.order.time_is;
+        latency_is = a.latency ∙ st.order.latency_is ∙ ap (λ (x : Settings). latency x h) (sym a.settings);
+        flushing_is = a.flushing ∙ st.order.flushing_is;
+        ended_long = rw a.ended st.order.ended_long;
+        ended_are = λ q. rw a.ended (st.order.ended_are q);
+        told_is = told;
+        placed = g.placed;
+        aside_is = a.aside ∙ st.order.aside_is;
+      };
+      skew = record { clocked = g.clocked };
+      times = record { marked = g.marked };
+    }
+
+-- ---- a packet is given out
 
 out_more : {A : Type 0} (b o : Bool) (x : Option A) → (if b then None else if o then None else x) ≡ (if b || o then None else x)
 out_more true o x = refl
 out_more false o x = refl
 
-held_removed : (s : Settings) (h : History) (m : map.FinMap nat_cmp Held) (n q : ℕ) → ((k : ℕ) → map.get m k ≡ held s h k) → map.get (map.remove m n) q ≡ (if q == n || is_out h q then None else find s.rate (accepted h) q)
-held_removed s h m n q are =
+held_removed : (s : Settings) (ps : List Taken) (out : ℕ → Bool) (m : map.FinMap nat_cmp Held) (n q : ℕ) → ((k : ℕ) → map.get m k ≡ (if out k then None else found s ps k)) → map.get (map.remove m n) q ≡ (if q == n || out q then None else found s ps q)
+held_removed s ps out m n q are =
     map.get-remove nat_cmp_total m n q
-    ∙ ap (λ b. if b then None else map.get m q) (unsigned_tied q n)
-    ∙ ap (λ o. if q == n then None else o) (are q)
-    ∙ out_more (q == n) (is_out h q) (find s.rate (accepted h) q)
+    ∙ ap (λ (b : Bool). if b then None else map.get m q) (unsigned_tied q n)
+    ∙ ap (λ (o : Option Held). if q == n then None else o) (are q)
+    ∙ out_more (q == n) (out q) (found s ps q)
 
--- the parts that a turn leaves alone
-record Same (old new : State) (h : History) : Type 0 where
-  settings : new.settings ≡ old.settings
-  pushes : new.progress.pushes ≡ old.progress.pushes
-  time : new.progress.time ≡ old.progress.time
-  top : new.progress.top ≡ old.progress.top
-  least : new.progress.least ≡ old.progress.least
-  session : new.progress.session_ended ≡ old.progress.session_ended
-  control : new.progress.control_ended ≡ old.progress.control_ended
-  clock : new.clock ≡ old.clock
+-- a number that is not among these changes no count
+count_none : (out : ℕ → Bool) (ps : List Taken) (n : ℕ) → has ps n ≡ false → count_in (λ q. q == n || out q) ps ≡ count_in out ps
+count_none out [] n e = refl
+count_none out (p ∷ ps) n e =
+    let rest : has ps n ≡ false = grind (arith, common_steps) in
+    let other : (p.number == n) ≡ false = grind (arith, common_steps) in
+    rw (other, count_none out ps n rest) refl
 
-after_turn : (old new : State) (h : History) (r : Turn) → StandsFor old h → r ≡ turn old.settings h → Same old new h
-    → new.progress.next ≡ covered r (next h)
-    → new.progress.end_told ≡ (is_end r || end_told h)
-    → ((q : ℕ) → map.get new.held q ≡ held old.settings (Turned r ∷ h) q)
-    → new.marks.items ≡ kept (covered r (next h)) (marks old.settings.rate (accepted h))
-    → StandsFor new (Turned r ∷ h)
-after_turn old new h r st is same nx told holds ms =
+count_more : (b : Bool) (c : ℕ) → 0 < c → (if b then c - 1 else c - 1 + 1) ≡ (if b then c else c + 1) - 1
+count_more true c lt = refl
+count_more false c lt = omega arith
+
+counted : (out : ℕ → Bool) (ps : List Taken) (n : ℕ) → has ps n ≡ true → out n ≡ false → 0 < count_in out ps
+counted out [] n e o = cc
+counted out (p ∷ ps) n e o =
+    elim (n == p.number) as (λ b. (n == p.number) ≡ b → (b || has ps n) ≡ true → 0 < count_in out (p ∷ ps)) [
+      | true ↦ λ same _. let is : p.number ≡ n = grind (arith, common_steps) in let not_yet : out p.number ≡ false = rw is o in rw not_yet (omega arith)
+      | false ↦ λ _ rest. split (λ (c : ℕ). 0 < c) (out p.number) (count_in out ps) (count_in out ps + 1) (λ _. counted out ps n rest o) (λ _. omega arith)
+    ] refl e
+
+-- one that is among them once, and was not out, makes it less by one
+count_given : (out : ℕ → Bool) (ps : List Taken) (n : ℕ) → IsDistinct ps → has ps n ≡ true → out n ≡ false → count_in (λ q. q == n || out q) ps ≡ count_in out ps - 1
+count_given out [] n d e o = cc
+count_given out (p ∷ ps) n d e o =
+    elim (n == p.number) as (λ b. (n == p.number) ≡ b → (b || has ps n) ≡ true → count_in (λ q. q == n || out q) (p ∷ ps) ≡ count_in out (p ∷ ps) - 1) [
+      | true ↦ λ same _.
+          let is : p.number ≡ n = grind (arith, common_steps) in
+          let none : has ps n ≡ false = subst (λ (x : ℕ). has ps x ≡ false) is d.0 in
+          let here : (p.number == n) ≡ true = grind (arith, common_steps) in
+          let not_yet : out p.number ≡ false = rw is o in
+          rw (here, not_yet, count_none out ps n none) (omega arith)
+      | false ↦ λ other rest.
+          let not_here : (p.number == n) ≡ false = grind (arith, common_steps) in
+          let less : count_in (λ q. q == n || out q) ps ≡ count_in out ps - 1 = count_given out ps n d.1 rest o in
+          rw (not_here, less) (count_more (out p.number) (count_in out ps) (counted out ps n rest o))
+    ] refl e
+
+covers_below : (v : Sight) (o : Option ℕ) (n pts : ℕ) (p : PacketType) → Covers v o (Packet n pts p) → IsBelow o (n + 1)
+covers_below v None n pts p c = tt
+covers_below v (Some k) n pts p c = let is : n ≡ k = c.0 in omega arith
+
+loses_below : (v : Sight) (o : Option ℕ) (n count pts d : ℕ) → Covers v o (Lost n count pts d) → IsBelow o (n + count)
+loses_below v None n count pts d c = tt
+loses_below v (Some k) n count pts d c = let is : n ≡ k = c.0 in omega arith
+
+covers_not_late : (v : Sight) (o : Option ℕ) (n pts : ℕ) (p : PacketType) → Covers v o (Packet n pts p) → is_late o n ≡ false
+covers_not_late v None n pts p c = refl
+covers_not_late v (Some k) n pts p c = let is : n ≡ k = c.0 in grind (arith, common_steps)
+
+gives_keeps : (old new : State) (h : History) (n pts : ℕ) (p : PacketType) → StandsFor old h → is_flushing h ≡ false → Packet n pts p ≡ turn old.settings h → Gives old new n → HasSegment new (accepted h) (Some (n + 1)) (λ q. q == n || is_out h q)
+gives_keeps old new h n pts p st e is d =
+    let cover : Covers (sight old.settings h) (next h) (Packet n pts p) = (covers old.settings h (Packet n pts p) is).fact in
+    let g : Placed old (accepted h) (next h) (is_out h) = placed_now old h e st.order.placed in
+    let c : Clocked old (accepted h) = clocked_now old h e st.skew.clocked in
+    let m : Marked old (accepted h) (next h) = marked_now old h e st.times.marked in
+    let there : has (accepted h) n ≡ true = sym (is_some-found old.settings (accepted h) n) ∙ ap is_some (given old.settings h n pts p (sym is)) in
+    let not_yet : is_out h n ≡ false = not_out old.settings h n st.run (covers_not_late (sight old.settings h) (next h) n pts p cover) in
     record {
-      valid = rw same.settings st.valid;
-      run = subst (λ x. Run x (Turned r ∷ h)) (sym same.settings) (is, st.run);
-      order = record {
-        pushes_are = same.pushes ∙ st.order.pushes_are;
-        time_is = same.time ∙ st.order.time_is;
-        next_is = nx;
-        top_is = same.top ∙ st.order.top_is;
-        least_is = same.least ∙ st.order.least_is;
-        held_are = λ q. subst (λ x. map.get new.held q ≡ held x (Turned r ∷ h) q) (sym same.settings) (holds q);
-        session_is = same.session ∙ st.order.session_is;
-        control_is = same.control ∙ st.order.control_is;
-        end_is = told;
+      placed = record {
+        next_is = ap (λ (x : Span). x.next) d.span;
+        top_is = ap (λ (x : Span). x.top) d.span ∙ g.top_is;
+        least_is = ap (λ (x : Span). x.least) d.span ∙ g.least_is;
+        held_are = λ q. subst (λ (x : Settings). map.get new.held q ≡ (if q == n || is_out h q then None else found x (accepted h) q)) (sym d.settings) (rw d.held (held_removed old.settings (accepted h) (is_out h) old.held n q g.held_are));
+        count_is = ap (λ (x : Span). x.held) d.span ∙ ap (λ (k : ℕ). k - 1) g.count_is ∙ sym (count_given (is_out h) (accepted h) n (distinct old.settings h st.run) there not_yet);
       };
-      skew = record { clock_is = same.clock ∙ st.skew.clock_is };
-      times = record { marks_are = subst (λ x. new.marks.items ≡ kept (covered r (next h)) (marks x.rate (accepted h))) (sym same.settings) ms };
+      clocked = record { rate_is = rw (d.skew, d.settings) c.rate_is; mode_is = rw (d.skew, d.settings) c.mode_is; stands = rw d.skew c.stands };
+      marked = record {
+        first_is = ap (λ (x : Span). x.first_pts) d.span ∙ rw d.settings m.first_is;
+        marks_are = subst (λ (x : Settings). new.heights ≡ kept (Some (n + 1)) (marks x (accepted h))) (sym d.settings)
+            (d.heights ∙ ap (kept (Some (n + 1))) m.marks_are ∙ kept_kept (next h) (n + 1) (marks old.settings (accepted h)) (covers_below (sight old.settings h) (next h) n pts p cover));
+      };
     }
 
-pub turn_keeps : (old new : State) (h : History) (r : Turn) → StandsFor old h → r ≡ state_turn old → TurnDoes old r new → StandsFor new (Turned r ∷ h)
-turn_keeps old new h r st value does =
-    let is : r ≡ turn old.settings h = value ∙ turn_is old h st in
-    let cover : Covers (unwrap_or (top (accepted h)) 0) (unwrap_or (least (accepted h)) 0) (next h) r = rw is (covers old.settings h st.run).fact in
-    let ms = marks old.settings.rate (accepted h) in
-    elim r as (λ r. r ≡ turn old.settings h → Covers (unwrap_or (top (accepted h)) 0) (unwrap_or (least (accepted h)) 0) (next h) r → TurnDoes old r new → StandsFor new (Turned r ∷ h)) [
-      | Packet n pts p ↦ λ is cover d. after_turn old new h (Packet n pts p) st is
-          (record { settings = d.settings; pushes = ap (λ x. x.pushes) d.progress; time = ap (λ x. x.time) d.progress; top = ap (λ x. x.top) d.progress; least = ap (λ x. x.least) d.progress; session = ap (λ x. x.session_ended) d.progress; control = ap (λ x. x.control_ended) d.progress; clock = d.clock })
-          (ap (λ x. x.next) d.progress)
-          (ap (λ x. x.end_told) d.progress ∙ st.order.end_is)
-          (λ q. rw d.held (held_removed old.settings h old.held n q st.order.held_are))
-          (d.marks ∙ ap (kept (Some (n + 1))) st.times.marks_are ∙ kept_kept (next h) (n + 1) ms (covers_below (unwrap_or (top (accepted h)) 0) (unwrap_or (least (accepted h)) 0) (next h) n pts p cover))
-      | Lost n count pts e ↦ λ is cover d. after_turn old new h (Lost n count pts e) st is
-          (record { settings = d.settings; pushes = ap (λ x. x.pushes) d.progress; time = ap (λ x. x.time) d.progress; top = ap (λ x. x.top) d.progress; least = ap (λ x. x.least) d.progress; session = ap (λ x. x.session_ended) d.progress; control = ap (λ x. x.control_ended) d.progress; clock = d.clock })
-          (ap (λ x. x.next) d.progress)
-          (ap (λ x. x.end_told) d.progress ∙ st.order.end_is)
-          (λ q. rw d.held (st.order.held_are q))
-          (d.marks ∙ ap (kept (Some (n + count))) st.times.marks_are ∙ kept_kept (next h) (n + count) ms (loses_below (unwrap_or (top (accepted h)) 0) (unwrap_or (least (accepted h)) 0) (next h) n count pts e cover))
-      | End ↦ λ is cover d. after_turn old new h End st is
-          (record { settings = d.settings; pushes = ap (λ x. x.pushes) d.progress; time = ap (λ x. x.time) d.progress; top = ap (λ x. x.top) d.progress; least = ap (λ x. x.least) d.progress; session = ap (λ x. x.session_ended) d.progress; control = ap (λ x. x.control_ended) d.progress; clock = d.clock })
-          (ap (λ x. x.next) d.progress ∙ st.order.next_is)
-          (ap (λ x. x.end_told) d.progress)
-          (λ q. rw d.held (st.order.held_are q))
-          (d.marks ∙ st.times.marks_are)
-      | Idle wake ↦ λ is cover d. after_turn old new h (Idle wake) st is
-          (record { settings = d.settings; pushes = ap (λ x. x.pushes) d.progress; time = ap (λ x. x.time) d.progress; top = ap (λ x. x.top) d.progress; least = ap (λ x. x.least) d.progress; session = ap (λ x. x.session_ended) d.progress; control = ap (λ x. x.control_ended) d.progress; clock = d.clock })
-          (ap (λ x. x.next) d.progress ∙ st.order.next_is)
-          (ap (λ x. x.end_told) d.progress ∙ st.order.end_is)
-          (λ q. rw d.held (st.order.held_are q))
-          (d.marks ∙ st.times.marks_are)
-    ] is cover does
+loses_keeps : (old new : State) (h : History) (n count pts e : ℕ) → StandsFor old h → is_flushing h ≡ false → Lost n count pts e ≡ turn old.settings h → Loses old new (n + count) → HasSegment new (accepted h) (Some (n + count)) (is_out h)
+loses_keeps old new h n count pts e st f is d =
+    let cover : Covers (sight old.settings h) (next h) (Lost n count pts e) = (covers old.settings h (Lost n count pts e) is).fact in
+    let g : Placed old (accepted h) (next h) (is_out h) = placed_now old h f st.order.placed in
+    let c : Clocked old (accepted h) = clocked_now old h f st.skew.clocked in
+    let m : Marked old (accepted h) (next h) = marked_now old h f st.times.marked in
+    record {
+      placed = record {
+        next_is = ap (λ (x : Span). x.next) d.span;
+        top_is = ap (λ (x : Span). x.top) d.span ∙ g.top_is;
+        least_is = ap (λ (x : Span). x.least) d.span ∙ g.least_is;
+        held_are = λ q. rw (d.held, d.settings) (g.held_are q);
+        count_is = ap (λ (x : Span). x.held) d.span ∙ g.count_is;
+      };
+      clocked = record { rate_is = rw (d.skew, d.settings) c.rate_is; mode_is = rw (d.skew, d.settings) c.mode_is; stands = rw d.skew c.stands };
+      marked = record {
+        first_is = ap (λ (x : Span). x.first_pts) d.span ∙ rw d.settings m.first_is;
+        marks_are = subst (λ (x : Settings). new.heights ≡ kept (Some (n + count)) (marks x (accepted h))) (sym d.settings)
+            (d.heights ∙ ap (kept (Some (n + count))) m.marks_are ∙ kept_kept (next h) (n + count) (marks old.settings (accepted h)) (loses_below (sight old.settings h) (next h) n count pts e cover));
+      };
+    }
 
--- an idle turn changes nothing
-pub idle_keeps : (old new : State) (h : History) (r : Turn) → StandsFor old h → TurnDoes old r new → is_idle r ≡ true → StandsFor new h
-idle_keeps old new h (Packet n pts p) st does i = cc
-idle_keeps old new h (Lost n count pts d) st does i = cc
-idle_keeps old new h End st does i = cc
-idle_keeps old new h (Idle wake) st does i = same_keeps old new h st does
+-- ---- all turns
 
-pub does_time : (old new : State) (r : Turn) → TurnDoes old r new → new.progress.time ≡ old.progress.time
-does_time old new (Packet n pts p) does = ap (λ (x : Progress). x.time) does.progress
-does_time old new (Lost n count pts d) does = ap (λ (x : Progress). x.time) does.progress
-does_time old new End does = ap (λ (x : Progress). x.time) does.progress
-does_time old new (Idle wake) does = ap (λ (x : Progress). x.time) does.progress
+not_flushing : (s : Settings) (h : History) (r : Turn) → r ≡ turn s h → (r ≡ Flushing → ⊥) → is_flushing h ≡ false
+not_flushing s h r is other =
+    elim (is_flushing h) as (λ b. is_flushing h ≡ b → is_flushing h ≡ false) [
+      | true ↦ λ e. absurd (other (is ∙ flushing_turn s h e))
+      | false ↦ λ e. e
+    ] refl
+
+packet_segment : (new : State) (h : History) (n pts : ℕ) (p : PacketType) → is_flushing h ≡ false → HasSegment new (accepted h) (Some (n + 1)) (λ q. q == n || is_out h q) → HasSegment new (live (Turned (Packet n pts p) ∷ h)) (live_next (Turned (Packet n pts p) ∷ h)) (live_out (Turned (Packet n pts p) ∷ h))
+packet_segment new h n pts p e g = subst (λ (b : Bool). HasSegment new (if b then [] else accepted h) (if b then None else Some (n + 1)) (λ q. not b && (q == n || is_out h q))) (sym e) g
+
+lost_segment : (new : State) (h : History) (n count pts d : ℕ) → is_flushing h ≡ false → HasSegment new (accepted h) (Some (n + count)) (is_out h) → HasSegment new (live (Turned (Lost n count pts d) ∷ h)) (live_next (Turned (Lost n count pts d) ∷ h)) (live_out (Turned (Lost n count pts d) ∷ h))
+lost_segment new h n count pts d e g = subst (λ (b : Bool). HasSegment new (if b then [] else accepted h) (if b then None else Some (n + count)) (λ q. not b && is_out h q)) (sym e) g
+
+left_alone : (old new : State) (h : History) → new.settings ≡ old.settings → LeavesSegment old new → StandsFor old h → HasSegment new (live h) (live_next h) (live_out h)
+left_alone old new h same l st = leaves old new (live h) (live_next h) (live_out h) same l st.order.placed st.skew.clocked st.times.marked
+
+turned_keeps : (old new : State) (h : History) (r : Turn) → StandsFor old h → r ≡ turn old.settings h → TurnDoes old r new → StandsFor new (Turned r ∷ h)
+turned_keeps old new h (Packet n pts p) st is d =
+    let e : is_flushing h ≡ false = not_flushing old.settings h (Packet n pts p) is (λ x. cc) in
+    assemble old new h (Packet n pts p) st is (alone old new d.settings d.progress d.aside) (ap (λ (x : Progress). x.end_told) d.progress ∙ st.order.told_is)
+    (packet_segment new h n pts p e (gives_keeps old new h n pts p st e is d))
+turned_keeps old new h (Lost n count pts x) st is d =
+    let e : is_flushing h ≡ false = not_flushing old.settings h (Lost n count pts x) is (λ x. cc) in
+    assemble old new h (Lost n count pts x) st is (alone old new d.settings d.progress d.aside) (ap (λ (x : Progress). x.end_told) d.progress ∙ st.order.told_is)
+    (lost_segment new h n count pts x e (loses_keeps old new h n count pts x st e is d))
+turned_keeps old new h (Request n k) st is d = absurd d
+turned_keeps old new h End st is d =
+    assemble old new h End st is
+    (record { settings = d.settings; pushes = ap (λ (x : Progress). x.pushes) d.progress; time = ap (λ (x : Progress). x.time) d.progress; latency = ap (λ (x : Progress). x.latency) d.progress; flushing = ap (λ (x : Progress). x.flushing) d.progress; ended = ap (λ (x : Progress). x.ended) d.progress; aside = d.aside })
+    (ap (λ (x : Progress). x.end_told) d.progress) (left_alone old new h d.settings d.segment st)
+turned_keeps old new h (Idle wake) st is d =
+    assemble old new h (Idle wake) st is (alone old new d.settings d.progress d.aside) (ap (λ (x : Progress). x.end_told) d.progress ∙ st.order.told_is) (left_alone old new h d.settings d.segment st)
+turned_keeps old new h Flushing st is d =
+    assemble old new h Flushing st is (alone old new d.settings d.progress d.aside) (ap (λ (x : Progress). x.end_told) d.progress ∙ st.order.told_is) (left_alone old new h d.settings d.segment st)
+
+pub turn_keeps : (old new : State) (h : History) (r : Turn) → StandsFor old h → r ≡ plain_turn (state_sight old) old.span.next → TurnDoes old r new → StandsFor new (Turned r ∷ h)
+turn_keeps old new h r st value does = turned_keeps old new h r st (value ∙ turn_is old h st) does
+
+-- a quiet turn changes nothing
+pub quiet_keeps : (old new : State) (h : History) (r : Turn) → StandsFor old h → TurnDoes old r new → is_quiet r ≡ true → StandsFor new h
+quiet_keeps old new h (Packet n pts p) st does i = cc
+quiet_keeps old new h (Lost n count pts d) st does i = cc
+quiet_keeps old new h (Request n k) st does i = cc
+quiet_keeps old new h End st does i = cc
+quiet_keeps old new h (Idle wake) st does i = same_keeps old new h st does
+quiet_keeps old new h Flushing st does i = same_keeps old new h st does
+
+pub does_progress : (old new : State) (r : Turn) → TurnDoes old r new → (new.settings ≡ old.settings) × (new.progress.time ≡ old.progress.time) × (new.progress.pushes ≡ old.progress.pushes)
+does_progress old new (Packet n pts p) d = (d.settings, ap (λ (x : Progress). x.time) d.progress, ap (λ (x : Progress). x.pushes) d.progress)
+does_progress old new (Lost n count pts e) d = (d.settings, ap (λ (x : Progress). x.time) d.progress, ap (λ (x : Progress). x.pushes) d.progress)
+does_progress old new (Request n k) d = absurd d
+does_progress old new End d = (d.settings, ap (λ (x : Progress). x.time) d.progress, ap (λ (x : Progress). x.pushes) d.progress)
+does_progress old new (Idle wake) d = (d.settings, ap (λ (x : Progress). x.time) d.progress, ap (λ (x : Progress). x.pushes) d.progress)
+does_progress old new Flushing d = (d.settings, ap (λ (x : Progress). x.time) d.progress, ap (λ (x : Progress). x.pushes) d.progress)

@@ -1,6 +1,7 @@
--- The heights that a buffer keeps.
-use Rattle.std.specs.Prelude.{ℕ, List, [], ◌∷◌, Option, Some, None, nat_le, if◌then◌else◌}
-use Rattle.first_model.specs.declared.Mark.{Mark}
+-- The heights that a buffer keeps, the greatest first.
+use Rattle.std.specs.Prelude.{ℕ, ◌+◌, ◌==◌, ◌^◌, ◌≤◌, ◌<◌, Bool, false, List, [], ◌∷◌, Option, Some, None, nat_le, length, slice_index_or, if◌then◌else◌}
+use Rattle.jitter_model.specs.declared.Mark.{Mark}
+use Rattle.jitter_model.specs.Times.{expected, expected_below}
 
 -- a height before these
 abbrev pub from_mark : Option ℕ → Mark → List Mark → List Mark
@@ -16,3 +17,17 @@ kept next (m ∷ ms) = from_mark next m (kept next ms)
 abbrev pub with_mark : Option ℕ → Option Mark → List Mark → List Mark
 with_mark next None ms = ms
 with_mark next (Some m) ms = from_mark next m ms
+
+-- whether a number is one above the latest of these heights
+abbrev pub is_next_mark : List Mark → ℕ → Bool
+is_next_mark [] n = false
+is_next_mark (m ∷ ms) n = n == m.number + 1
+
+-- the expected time of n below this height, or below none
+abbrev pub expected_after : Option Mark → List Mark → ℕ → ℕ
+expected_after None ms n = expected ms n
+expected_after (Some b) ms n = expected_below b ms n
+
+-- heights with times below 2^63 and numbers up to 2^62
+abbrev pub AreMarksBounded : List Mark → Type 0
+AreMarksBounded ms = (i : ℕ) (d : Mark) → i < length ms → (slice_index_or ms i d).pts < 2 ^ 63 × (slice_index_or ms i d).number ≤ 2 ^ 62

@@ -1,96 +1,125 @@
--- What the parts of a buffer's calls do to its state.
-use Rattle.std.specs.Prelude.{ℕ, pos, negsuc, ◌+◌, ◌≡◌, ◌<◌, ◌≤◌, ◌≤ℤ◌, ◌^◌, ◌&&◌, Bool, List, max, min, Option, Some, None, unwrap_or, nat_lt, if◌then◌else◌, length, slice_index_or}
+-- What a state leaves room for, and what it takes to accept a packet.
+use Rattle.std.specs.Prelude.{ℕ, ◌+◌, ◌≡◌, ◌<◌, ◌≤◌, ◌^◌, ◌&&◌, Bool, true, false, List, [], ◌∷◌, length, max, min, Option, Some, None, IsSome, unwrap_or, is_some, if◌then◌else◌}
 use Rattle.std.specs.Option.{ForSome}
 use Rattle.std.specs.FinMap as map
-use Rattle.first_model.specs.declared.Arrival.{Arrival}
-use Rattle.first_model.specs.declared.Mark.{Mark}
-use Rattle.first_model.specs.declared.SenderClock.{SenderClock}
-use Rattle.first_model.specs.Accepted.{is_original}
-use Rattle.first_model.specs.Times.{clock_after, height_time, other_time}
-use Rattle.jitter_core.specs.declared.state.Progress.{Progress}
+use Rattle.rtp_units.specs.declared.Mode.{Mode}
+use Rattle.skew_model.specs.Skew.{Height, estimate, estimate_after, height_time}
+use Rattle.skew_estimator.specs.Estimator.{Estimator, StandsFor, IsStarted}
+use Rattle.jitter_model.specs.declared.Arrival.{Arrival}
+use Rattle.jitter_model.specs.declared.Mark.{Mark}
+use Rattle.jitter_model.specs.Accepted.{is_original, number_from}
+use Rattle.jitter_model.specs.Verdicts.{is_late, is_full}
+use Rattle.jitter_model.specs.Times.{is_above, time_of}
+use Rattle.jitter_core.specs.declared.state.Span.{Span}
 use Rattle.jitter_core.specs.declared.state.State.{State}
-use Rattle.jitter_core.specs.Marks.{with_mark}
+use Rattle.jitter_core.specs.Asides.{newest_first}
+use Rattle.jitter_core.specs.Marks.{AreMarksBounded, with_mark, is_next_mark}
 
--- a clock that may take one more timestamp
-pub record HasRoom (c : SenderClock) : Type 0 where
-  pub low : negsuc 4611686018427387903 ≤ℤ c.last
-  pub high : c.last ≤ℤ pos 4611686018427387904
-  pub start_low : pos 0 ≤ℤ c.start
-  pub start_high : c.start ≤ℤ pos 4294967296
+-- the lowest number that is still to be given out, or that comes
+abbrev pub lowest : Option ℕ → Option ℕ → ℕ → ℕ
+lowest (Some next) least n = next
+lowest None least n = min (unwrap_or least n) n
 
--- marks with times below 2^63 and numbers up to 2^62
-abbrev pub AreMarksBounded : List Mark → Type 0
-AreMarksBounded ms = (i : ℕ) (d : Mark) → i < length ms → (slice_index_or ms i d).pts < 2 ^ 63 × (slice_index_or ms i d).number ≤ 2 ^ 62
+-- the estimator is one for the settings
+pub record IsFitted (s : State) : Type 0 where
+  pub rate : s.skew.rate ≡ s.settings.rate
+  pub mode : s.skew.mode ≡ s.settings.mode
 
 -- numbers that leave room for the next steps
 pub record IsBounded (s : State) : Type 0 where
-  pub rate : 0 < s.settings.rate
-  pub above : ForSome s.progress.top (λ t. 32768 ≤ t)
-  pub below : ForSome s.progress.top (λ t. t ≤ 2 ^ 62)
-  pub least : ForSome s.progress.least (λ n. n ≤ 2 ^ 62)
-  pub next : ForSome s.progress.next (λ n. n ≤ 2 ^ 62)
-  pub latency : s.settings.latency ≤ 2 ^ 62
-  pub marks : AreMarksBounded s.marks.items
+  pub fitted : IsFitted s
+  pub latency : s.progress.latency ≤ 2 ^ 62
+  pub above : ForSome s.span.top (λ t. 32768 ≤ t)
+  pub below : ForSome s.span.top (λ t. t ≤ 2 ^ 61)
+  pub least : ForSome s.span.least (λ n. n ≤ 2 ^ 61)
+  pub next : ForSome s.span.next (λ n. n ≤ 2 ^ 61)
+  pub first : ForSome s.span.first_pts (λ t. t < 2 ^ 63)
+  pub window : ForSome s.span.next (λ n. unwrap_or s.span.top 0 < n + 8192)
+  pub first_window : s.span.next ≡ None → unwrap_or s.span.top 0 < unwrap_or s.span.least 0 + 8192
+  pub least_known : is_some s.span.least ≡ is_some s.span.top
+  pub next_known : is_some s.span.next ≡ true → is_some s.span.top ≡ true
+  pub count : s.span.held ≤ 2147483648
+  pub least_top : unwrap_or s.span.least 0 ≤ unwrap_or s.span.top 0
+  pub started : is_some s.span.top ≡ true → IsStarted s.skew
+  pub few : s.skew.heights < 2 ^ 31
+  pub heights : AreMarksBounded s.heights
+  pub room : length s.heights ≤ 8192
+  pub held_from : (q : ℕ) → IsSome (map.get s.held q) → (is_late s.span.next q ≡ false) × (unwrap_or s.span.least 0 ≤ q)
+  pub held_to : (q : ℕ) → IsSome (map.get s.held q) → (is_some s.span.top ≡ true) × (q ≤ unwrap_or s.span.top 0)
+
+-- the packets that are put aside, the newest first
+abbrev pub run_of : State → List Arrival
+run_of s = newest_first s.aside
+
+-- the number of a packet that comes
+abbrev pub state_number : State → Arrival → ℕ
+state_number s a = number_from s.span.top a.packet.seq
 
 -- whether the packet is a height after this greatest number
-abbrev pub is_above : Option ℕ → Arrival → ℕ → Bool
-is_above top a n = is_original a.origin && nat_lt (unwrap_or top 0) n
+abbrev pub is_height_by : Option ℕ → Arrival → ℕ → Bool
+is_height_by top a n = is_original a.origin && is_above top n
 
--- the sender's clock after the packet
-abbrev pub next_clock : Option ℕ → Option SenderClock → Arrival → ℕ → Option SenderClock
-next_clock top clock a n =
-    if is_above top a n
-    then Some (clock_after clock (record { number = n; arrival = a }))
-    else clock
+-- what the skew's estimate goes by, after these heights
+abbrev pub height_by : List Mark → Arrival → ℕ → Height
+height_by ms a n = record { rtp = a.packet.rtp; stamp = a.stamp; is_next = is_next_mark ms n }
 
--- its presentation time
-abbrev pub next_pts : ℕ → Option ℕ → Option SenderClock → Arrival → ℕ → ℕ
-next_pts rate top clock a n =
-    if is_above top a n
-    then height_time rate (clock_after clock (record { number = n; arrival = a }))
-    else other_time rate clock a.packet.rtp
+-- the heights after the packet
+abbrev pub heights_after : List Height → Option ℕ → List Mark → Arrival → ℕ → List Height
+heights_after hs top ms a n = if is_height_by top a n then height_by ms a n ∷ hs else hs
 
--- the mark that it leaves
-abbrev pub next_mark : ℕ → Option ℕ → Option SenderClock → Arrival → ℕ → Option Mark
-next_mark rate top clock a n =
-    if is_above top a n
-    then Some (record { number = n; pts = next_pts rate top clock a n })
-    else None
+-- its presentation time after these heights, by whether its number is one above the latest one's
+abbrev pub time_after : ℕ → Mode → List Height → Option ℕ → Bool → Arrival → ℕ → ℕ
+time_after rate mode hs top is_next a n =
+    if is_height_by top a n
+    then height_time rate (estimate_after rate mode (estimate rate mode hs) (record { rtp = a.packet.rtp; stamp = a.stamp; is_next = is_next }))
+    else time_of rate (estimate rate mode hs) a.packet.rtp
 
--- the progress after a push that wasn't accepted
-abbrev pub refused_progress : Progress → ℕ → Progress
-refused_progress p stamp = record p { pushes = p.pushes + 1; time = max stamp p.time }
+-- the estimator after the packet, and the packet's presentation time, whatever heights the estimator stands for; none where nothing was accepted
+pub record Timed (old new : Estimator) (top : Option ℕ) (ms : List Mark) (a : Arrival) (n pts : ℕ) : Type 0 where
+  pub rate : new.rate ≡ old.rate
+  pub mode : new.mode ≡ old.mode
+  pub stands : (hs : List Height) → (is_some top ≡ false → hs ≡ []) → StandsFor old hs → StandsFor new (heights_after hs top ms a n)
+  pub time : (hs : List Height) → (is_some top ≡ false → hs ≡ []) → StandsFor old hs → pts ≡ time_after old.rate old.mode hs top (is_next_mark ms n) a n
 
--- the progress after a packet with this number was accepted
-abbrev pub accepted_progress : Progress → ℕ → ℕ → Progress
-accepted_progress p stamp n =
+-- the height that it leaves
+abbrev pub mark_with : Option ℕ → Arrival → ℕ → ℕ → Option Mark
+mark_with top a n pts = if is_height_by top a n then Some (record { number = n; pts = pts }) else None
+
+-- the numbers after a packet with this number and this time was accepted
+abbrev pub accepted_span : Span → ℕ → ℕ → Span
+accepted_span p n pts =
     record p {
-      pushes = p.pushes + 1;
-      time = max stamp p.time;
       top = Some (max n (unwrap_or p.top 0));
       least = Some (min n (unwrap_or p.least n));
+      first_pts = Some (unwrap_or p.first_pts pts);
+      held = p.held + 1;
     }
+
+-- a packet that can be accepted under a number: not below the next one, not past the window, and not held; and an original if it is the first
+pub record CanAccept (s : State) (a : Arrival) (n : ℕ) : Type 0 where
+  pub late : is_late s.span.next n ≡ false
+  pub full : is_full s.span.top s.span.least s.span.next n ≡ false
+  pub fresh : map.get s.held n ≡ None
+  pub original : is_some s.span.top ≡ false → is_original a.origin ≡ true
+
+-- what the segment is after a packet with this number was accepted
+pub record Accepts (old new : State) (a : Arrival) (n : ℕ) : Type 0 where
+  pub pts : ℕ
+  pub span : new.span ≡ accepted_span old.span n pts
+  pub held : new.held ≡ map.insert old.held n (record { pts = pts; packet = a.packet })
+  pub heights : new.heights ≡ with_mark old.span.next (mark_with old.span.top a n pts) old.heights
+  pub timed : Timed old.skew new.skew old.span.top old.heights a n pts
+
+-- nothing of the segment was changed
+pub record LeavesSegment (old new : State) : Type 0 where
+  pub span : new.span ≡ old.span
+  pub held : new.held ≡ old.held
+  pub skew : new.skew ≡ old.skew
+  pub heights : new.heights ≡ old.heights
 
 -- nothing was changed
 pub record IsSame (old new : State) : Type 0 where
   pub settings : new.settings ≡ old.settings
   pub progress : new.progress ≡ old.progress
-  pub held : new.held ≡ old.held
-  pub clock : new.clock ≡ old.clock
-  pub marks : new.marks.items ≡ old.marks.items
-
--- a push was refused
-pub record Refuses (old new : State) (a : Arrival) : Type 0 where
-  pub settings : new.settings ≡ old.settings
-  pub progress : new.progress ≡ refused_progress old.progress a.stamp
-  pub held : new.held ≡ old.held
-  pub clock : new.clock ≡ old.clock
-  pub marks : new.marks.items ≡ old.marks.items
-
--- a packet with this number was accepted
-pub record Accepts (old new : State) (a : Arrival) (n : ℕ) : Type 0 where
-  pub settings : new.settings ≡ old.settings
-  pub progress : new.progress ≡ accepted_progress old.progress a.stamp n
-  pub held : new.held ≡ map.insert old.held n (record { pts = next_pts old.settings.rate old.progress.top old.clock a n; packet = a.packet })
-  pub clock : new.clock ≡ next_clock old.progress.top old.clock a n
-  pub marks : new.marks.items ≡ with_mark old.progress.next (next_mark old.settings.rate old.progress.top old.clock a n) old.marks.items
+  pub aside : new.aside ≡ old.aside
+  pub segment : LeavesSegment old new

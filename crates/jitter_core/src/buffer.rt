@@ -2,16 +2,23 @@
 
 ghost use Rattle.jitter_core.specs.Stands.{IsReached};
 
+use crate::flushing::{report_on, start_flush, stop_flush};
+use crate::heights::Heights;
 use crate::pushing::push_on;
-use crate::state::{Progress, State};
-use crate::timing::{end_pusher, pass_time};
+use crate::state::{Progress, Span, State};
+use crate::timing::{delay, end_pusher, pass_time};
 use crate::turning::{have_all_ended, turn_on};
-use first_model::{Arrival, Pushed, Settings, Turn, Verdict};
-use first_store::Store;
+use jitter_model::{Arrival, Held, Pushed, Settings, Turn};
+use packet_store::{AsideList, Store};
+use rtp_units::{OutOfMemory, SyncInfo};
+use skew_estimator::Skew;
 use std::alloc::Global;
-use std::collections::VecDeque;
 
 /// Holds the packets of one source and gives them out in order.
+///
+/// A buffer stands for the list of all calls so far with their replies, and each reply is the one that the
+/// list machine of `jitter_model` defines on that list. Turns that are answered `Idle` or `Flushing` may be
+/// left out of it. Only `new` takes memory.
 #[derive(Drop)]
 pub struct Buffer {
     state: State,
@@ -19,40 +26,57 @@ pub struct Buffer {
 }
 
 impl Buffer {
-    ghost use Rattle.std.specs.Prelude.{◌≡◌, ◌≢◌, ◌<◌, ◌≤◌, ◌^◌, ◌+◌, ◌⊎◌, max, true, false, [], ◌∷◌};
-    ghost use Rattle.first_model.specs.History.{Entry, Clock, Ends, Turned, History, pushes, all_ended};
-    ghost use Rattle.first_model.specs.Accepted.{is_original, verdict, number_of, told_number};
-    ghost use Rattle.first_model.specs.Replies.{turn, is_idle, wake_of, IsLater};
-    ghost use Rattle.jitter_core.specs.Stands.{IsValid, after_push, back_of};
+    ghost use Rattle.std.specs.Prelude.{◌≡◌, ◌<◌, ◌≤◌, ◌^◌, ◌+◌, ℕ, max, true, false, [], ◌∷◌, IfOk};
+    ghost use Rattle.std.specs.FinMap as map;
+    ghost use Rattle.jitter_model.specs.declared.Entry.TheVariants.{Push, Clock, FlushStart, FlushStop, Latency, Report, Ends, Turned};
+    ghost use Rattle.jitter_model.specs.History.{History, pushes, is_pusher, all_ended};
+    ghost use Rattle.jitter_model.specs.Verdicts.{pushed as reply_to_push};
+    ghost use Rattle.jitter_model.specs.Times.{held};
+    ghost use Rattle.jitter_model.specs.Turns.{turn, is_quiet, wake_of};
+    ghost use Rattle.jitter_model.specs.Runs.{IsValid, flush_count, report};
+    ghost use Rattle.jitter_model.specs.Laws.{IsLater};
+    ghost use Rattle.jitter_core.specs.Stands.{IsBuilt};
     ghost use Rattle.jitter_core.specs.Words.{Stands, settings_of, pushes_of, left_of, now_of};
 
-    /// An empty buffer.
-    pub fn new(alloc: Global, settings: &Settings) -> Buffer
-        requires { IsValid settings.now }
-        ensures settings { settings_of result ≡ settings.now }
-        ensures stands { Stands result [] }
+    /// An empty buffer, or an error where there is no memory for it.
+    pub fn new(alloc: Global, settings: &Settings) -> Result<Buffer, OutOfMemory>
+        requires valid { IsValid settings.now }
+        requires built { IsBuilt settings.now }
+        ensures settings { IfOk result (λ b. settings_of b ≡ settings.now) }
+        ensures pushes { IfOk result (λ b. pushes_of b ≡ 0) }
+        ensures time { IfOk result (λ b. now_of b ≡ 0) }
+        ensures stands { IfOk result (λ b. Stands b []) }
     {
-        Buffer {
+        let held = Store::new(alloc)?;
+        let heights = Heights::new(alloc)?;
+        let skew = Skew::new(alloc, settings.rate, settings.mode)?;
+        Ok(Buffer {
             state: State {
                 settings: *settings,
                 progress: Progress {
                     pushes: 0,
                     time: 0,
+                    latency: settings.latency,
+                    flushing: false,
+                    ended: [false; 9],
+                    end_told: false,
+                },
+                span: Span {
                     next: None,
                     top: None,
                     least: None,
-                    session_ended: false,
-                    control_ended: false,
-                    end_told: false,
+                    first_pts: None,
+                    held: 0,
                 },
-                held: Store::new(alloc),
-                clock: None,
-                marks: VecDeque::new(alloc),
+                skew,
+                heights,
+                held,
+                aside: AsideList::new(),
             },
-        }
+        })
     }
 
-    /// How many pushes were made.
+    /// How many packets were pushed.
     pub fn pushed(&self) -> u32
         ensures value { result ≡ pushes_of self.now }
         ensures stands { (h : History) → Stands self.now h → result ≡ pushes h }
@@ -60,157 +84,108 @@ impl Buffer {
         self.state.progress.pushes
     }
 
-    /// Takes a packet in.
+    /// Takes a packet in, and says what became of it.
     pub fn push(&mut self, a: Arrival) -> Pushed
-        requires pusher { (a.pusher ≡ 0) ⊎ (a.pusher ≡ 8) }
+        requires pusher { is_pusher (settings_of self.old).pushers a.pusher ≡ true }
         requires stamp { a.stamp < 2 ^ 63 }
-        requires origin { is_original a.origin ≡ true }
         requires few { pushes_of self.old < 2 ^ 31 }
         ensures settings { settings_of self.new ≡ settings_of self.old }
-        ensures back { result.back ≡ back_of result.verdict a.packet }
-        ensures count { pushes_of self.new ≤ pushes_of self.old + 1 }
-        ensures verdict { (h : History) → Stands self.old h → result.verdict ≢ Verdict.Memory → result.verdict ≡ verdict (settings_of self.old) h a }
-        ensures stands { (h : History) → Stands self.old h → Stands self.new (after_push a result.verdict result.number h) }
+        ensures count { pushes_of self.new ≡ pushes_of self.old + 1 }
+        ensures time { now_of self.new ≡ max a.stamp (now_of self.old) }
+        ensures value { (h : History) → Stands self.old h → result ≡ reply_to_push (settings_of self.old) h a }
+        ensures stands { (h : History) → Stands self.old h → Stands self.new (Push a result.verdict result.number result.aside_dropped ∷ h) }
     {
         push_on(&mut self.state, a)
     }
 
-    /// Takes a turn.
+    /// Takes a turn: gives out one packet, gives up numbers, or says what there is to wait for.
     pub fn turn(&mut self) -> Turn
         ensures settings { settings_of self.new ≡ settings_of self.old }
-        ensures value { (h : History) → Stands self.old h → result ≡ turn (settings_of self.old) h }
-        ensures stands { (h : History) → Stands self.old h → Stands self.new (Turned result ∷ h) }
-        ensures idle { is_idle result ≡ true → (h : History) → Stands self.old h → Stands self.new h }
-        ensures left { is_idle result ≡ false → left_of self.new < left_of self.old }
         ensures same { pushes_of self.new ≡ pushes_of self.old }
         ensures time { now_of self.new ≡ now_of self.old }
+        ensures value { (h : History) → Stands self.old h → result ≡ turn (settings_of self.old) h }
+        ensures stands { (h : History) → Stands self.old h → Stands self.new (Turned result ∷ h) }
+        ensures quiet { is_quiet result ≡ true → (h : History) → Stands self.old h → Stands self.new h }
+        ensures left { is_quiet result ≡ false → left_of self.new < left_of self.old }
         ensures later { IsLater (now_of self.old) (wake_of result) }
     {
         turn_on(&mut self.state)
     }
 
-    /// Lets time pass up to `t`.
+    /// Lets time pass up to `t`, which is below 2^63 + 2^50.
     pub fn clock(&mut self, t: u64)
+        requires { t < 2 ^ 63 + 2 ^ 50 }
         ensures settings { settings_of self.new ≡ settings_of self.old }
-        ensures stands { (h : History) → Stands self.old h → Stands self.new (Clock t ∷ h) }
         ensures same { pushes_of self.new ≡ pushes_of self.old }
         ensures time { now_of self.new ≡ max t (now_of self.old) }
+        ensures stands { (h : History) → Stands self.old h → Stands self.new (Clock t ∷ h) }
     {
         pass_time(&mut self.state, t);
     }
 
+    /// Begins a flush: drops the packets that are held or put aside, and gives their count.
+    pub fn flush_start(&mut self) -> u32
+        ensures settings { settings_of self.new ≡ settings_of self.old }
+        ensures same { pushes_of self.new ≡ pushes_of self.old }
+        ensures time { now_of self.new ≡ now_of self.old }
+        ensures value { (h : History) → Stands self.old h → result ≡ flush_count h }
+        ensures stands { (h : History) → Stands self.old h → Stands self.new (FlushStart result ∷ h) }
+    {
+        start_flush(&mut self.state)
+    }
+
+    /// Ends a flush. A new segment begins.
+    pub fn flush_stop(&mut self)
+        ensures settings { settings_of self.new ≡ settings_of self.old }
+        ensures same { pushes_of self.new ≡ pushes_of self.old }
+        ensures time { now_of self.new ≡ now_of self.old }
+        ensures stands { (h : History) → Stands self.old h → Stands self.new (FlushStop ∷ h) }
+    {
+        stop_flush(&mut self.state);
+    }
+
+    /// Sets the latency, at most 600 seconds.
+    pub fn set_latency(&mut self, ns: u64)
+        requires { ns ≤ 600000000000 }
+        ensures settings { settings_of self.new ≡ settings_of self.old }
+        ensures same { pushes_of self.new ≡ pushes_of self.old }
+        ensures time { now_of self.new ≡ now_of self.old }
+        ensures stands { (h : History) → Stands self.old h → Stands self.new (Latency ns ∷ h) }
+    {
+        delay(&mut self.state, ns);
+    }
+
+    /// The presentation time of the RTP timestamp of a sender report (RFC 3550, section 6.4.1), with the
+    /// report's NTP time. None while a flush runs, and where the segment has no height.
+    pub fn sender_report(&self, ntp_ns: u64, rtp: u32) -> Option<SyncInfo>
+        ensures value { (h : History) → Stands self.now h → result ≡ report (settings_of self.now) h ntp_ns rtp }
+        ensures stands { (h : History) → Stands self.now h → Stands self.now (Report ntp_ns rtp result ∷ h) }
+    {
+        report_on(&self.state, ntp_ns, rtp)
+    }
+
     /// Ends a pusher.
     pub fn end(&mut self, pusher: u8)
-        requires { (pusher ≡ 0) ⊎ (pusher ≡ 8) }
+        requires { is_pusher (settings_of self.old).pushers pusher ≡ true }
         ensures settings { settings_of self.new ≡ settings_of self.old }
-        ensures stands { (h : History) → Stands self.old h → Stands self.new (Ends pusher ∷ h) }
         ensures same { pushes_of self.new ≡ pushes_of self.old }
+        ensures time { now_of self.new ≡ now_of self.old }
+        ensures stands { (h : History) → Stands self.old h → Stands self.new (Ends pusher ∷ h) }
     {
         end_pusher(&mut self.state, pusher);
     }
 
     /// Whether all pushers ended.
     pub fn all_ended(&self) -> bool
-        ensures { (h : History) → Stands self.now h → result ≡ all_ended h }
+        ensures { (h : History) → Stands self.now h → result ≡ all_ended (settings_of self.now) h }
     {
-        have_all_ended(&self.state.progress)
-    }
-}
-
-#[cfg(test)]
-mod tests {
-    use super::*;
-    use first_model::{Origin, Packet};
-    use rtp_units::Blob;
-    use std::test::Fail;
-
-    const SETTINGS: Settings = Settings {
-        rate: 90000,
-        latency: 100000000,
-        dropout: 3000,
-        misorder: 100,
-    };
-
-    // Pushes a packet with this number, at these milliseconds, with this timestamp.
-    fn put(
-        rt: &HostRuntime,
-        buffer: &mut Buffer,
-        seq: u16,
-        ms: u32,
-        rtp: u32,
-    ) -> Result<Verdict, Fail> {
-        if buffer.pushed() >= 1000 {
-            return Ok(Verdict::Memory);
-        }
-        let packet = Packet {
-            seq,
-            rtp,
-            pt: 96,
-            marker: false,
-            payload: 4,
-            bytes: Blob::copy_of(rt.alloc(), &[1, 2, 3, 4])?,
-        };
-        let pushed = buffer.push(Arrival {
-            pusher: 0,
-            k: 0,
-            stamp: u64::from(ms) * 1000000,
-            origin: Origin::Original,
-            packet,
-        });
-        Ok(pushed.verdict)
+        have_all_ended(&self.state.settings, &self.state.progress)
     }
 
-    // The number and the time of the packet that a turn gives, the number and the count that it gives up, or its wake.
-    fn told(turn: Turn) -> (u64, u64, u64) {
-        match turn {
-            Turn::Packet {
-                number,
-                pts,
-                packet: _,
-            } => (1, number, pts),
-            Turn::Lost {
-                number,
-                count,
-                pts: _,
-                duration: _,
-            } => (2, number, u64::from(count)),
-            Turn::End => (3, 0, 0),
-            Turn::Idle { wake } => (4, wake.unwrap_or(0), 0),
-        }
-    }
-
-    #[test]
-    fn gives_a_lost_number_at_its_deadline(rt: HostRuntime) -> Result<(), Fail> {
-        let mut buffer = Buffer::new(rt.alloc(), &SETTINGS);
-        assert_eq!(rt; put(&rt, &mut buffer, 1, 0, 0)?, Verdict::Accepted);
-        assert_eq!(rt; put(&rt, &mut buffer, 2, 20, 1800)?, Verdict::Accepted);
-        assert_eq!(rt; put(&rt, &mut buffer, 4, 60, 5400)?, Verdict::Accepted);
-        assert_eq!(rt; told(buffer.turn()), (4, 100000000, 0));
-        buffer.clock(100000000);
-        assert_eq!(rt; told(buffer.turn()), (1, 65537, 0));
-        assert_eq!(rt; told(buffer.turn()), (1, 65538, 20000000));
-        assert_eq!(rt; told(buffer.turn()), (4, 140000000, 0));
-        buffer.clock(140000000);
-        assert_eq!(rt; told(buffer.turn()), (2, 65539, 1));
-        assert_eq!(rt; told(buffer.turn()), (1, 65540, 60000000));
-        assert_eq!(rt; put(&rt, &mut buffer, 3, 140, 3600)?, Verdict::Late);
-        assert_eq!(rt; told(buffer.turn()), (4, 0, 0));
-        buffer.end(0);
-        buffer.end(8);
-        assert_eq!(rt; told(buffer.turn()), (3, 0, 0));
-        assert_eq!(rt; told(buffer.turn()), (4, 0, 0));
-        Ok(())
-    }
-
-    #[test]
-    fn starts_at_the_least_number(rt: HostRuntime) -> Result<(), Fail> {
-        let mut buffer = Buffer::new(rt.alloc(), &SETTINGS);
-        assert_eq!(rt; put(&rt, &mut buffer, 2, 0, 1800)?, Verdict::Accepted);
-        assert_eq!(rt; put(&rt, &mut buffer, 1, 10, 0)?, Verdict::Accepted);
-        assert_eq!(rt; put(&rt, &mut buffer, 1, 10, 0)?, Verdict::Duplicate);
-        buffer.clock(100000000);
-        assert_eq!(rt; told(buffer.turn()), (1, 65537, 0));
-        assert_eq!(rt; told(buffer.turn()), (1, 65538, 0));
-        Ok(())
+    /// The held packets, each under its extended sequence number.
+    pub fn store(&self) -> &Store<Held>
+        ensures { (h : History) → Stands self.now h → (n : ℕ) → map.get result.now n ≡ held (settings_of self.now) h n }
+    {
+        &self.state.held
     }
 }

@@ -1,5 +1,5 @@
 -- The cases of a turn, and the searches in it.
-use Rattle.std.proofs.Common.{ℕ, zero, suc, ◌≡◌, ◌+◌, ◌-◌, ◌≤◌, ◌<◌, Bool, true, false, ◌&&◌, not, refl, subst, List, [], ◌∷◌, Option, arith}
+use Rattle.std.proofs.Common.{ℕ, zero, suc, ◌≡◌, ◌+◌, ◌-◌, ◌≤◌, ◌<◌, Bool, true, false, ◌&&◌, not, refl, subst, List, [], ◌∷◌, Option, arith, sym}
 use Rattle.std.specs.Prelude.{unwrap_or, is_some, ◌==◌, if◌then◌else◌}
 use Rattle.std.proofs.lemmas.Grind.{common_steps}
 use Rattle.jitter_model.specs.declared.Settings.{Settings}
@@ -71,6 +71,19 @@ least_from_before passes n (suc count) m le h =
       | true ↦ λ e less. absurd (omega arith)
       | false ↦ λ e less. before_or_here passes n m le e (λ more. least_from_before passes (n + 1) count m more less)
     ] refl h
+
+-- it is the number that passes while none before it does
+pub least_from_is : (passes : ℕ → Bool) (n count m : ℕ) → n ≤ m → m ≤ n + count → ((q : ℕ) → n ≤ q → q < m → passes q ≡ false) → (m < n + count → passes m ≡ true) → least_from passes n count ≡ m
+least_from_is passes n zero m from to before here = omega arith
+least_from_is passes n (suc count) m from to before here =
+    elim (n == m) as (λ b. (n == m) ≡ b → least_from passes n (suc count) ≡ m) [
+      | true ↦ λ same. let is : n ≡ m = grind (arith, common_steps) in
+          let passing : passes n ≡ true = subst (λ q. passes q ≡ true) (sym is) (here (omega arith)) in
+          rw passing is
+      | false ↦ λ other. let more : n + 1 ≤ m = grind (arith, common_steps) in
+          let failing : passes n ≡ false = before n (omega arith) (omega arith) in
+          rw failing (least_from_is passes (n + 1) count m more (omega arith) (λ q a b. before q (omega arith) b) (λ less. here (omega arith)))
+    ] refl
 
 -- ---- the accepted numbers
 

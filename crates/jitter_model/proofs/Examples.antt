@@ -170,3 +170,13 @@ a_latency = refl
 reports : lines (begun usual (sender_report (ms 1) 0 ∷ packet (ms 2) 1 900 ∷ sender_report (ms 3) 1800 ∷ [])) ≡ sync 0 None ∷ told (ms 2) Accepted 65537 0 ∷ sync (ms 2) (Some (record { ntp_ns = 0; local = ms 12 })) ∷ []
 unfolding pusher_count
 reports = refl
+
+-- the example that docs/BUFFER.md tells: a loss, a late packet, requests and a restart
+told_example : lines (begun (record usual { rtx = true; reorder = 0 }) (packet 0 1 0 ∷ packet (ms 20) 2 1800 ∷ packet (ms 60) 4 5400 ∷ packet (ms 150) 3 3600 ∷ packet (ms 200) 9001 500000 ∷ packet (ms 220) 9002 501800 ∷ packet (ms 240) 9003 503600 ∷ packet (ms 260) 9004 505400 ∷ packet (ms 280) 9005 507200 ∷ tick (ms 300) ∷ [])) ≡
+    told 0 Accepted 65537 0 ∷ told (ms 20) Accepted 65538 0 ∷ request (ms 60) 65539 0 ∷ told (ms 60) Accepted 65540 0
+    ∷ request (ms 100) 65541 0 ∷ out (ms 100) 65537 0 ∷ out (ms 100) 65538 (ms 20) ∷ request (ms 120) 65539 1
+    ∷ request (ms 140) 65541 1 ∷ lost (ms 140) 65539 1 (ms 40) (ms 20) ∷ out (ms 140) 65540 (ms 60) ∷ told (ms 150) Late 65539 0
+    ∷ told (ms 200) Aside 74537 0 ∷ told (ms 220) Aside 74538 0 ∷ told (ms 240) Aside 74539 0 ∷ told (ms 260) Aside 74540 0 ∷ told (ms 280) (Restart 0) 74541 0
+    ∷ out (ms 300) 74537 (ms 200) ∷ out (ms 300) 74538 (ms 220) ∷ out (ms 300) 74539 (ms 240) ∷ out (ms 300) 74540 (ms 260) ∷ out (ms 300) 74541 (ms 280) ∷ []
+unfolding pusher_count
+told_example = refl

@@ -185,6 +185,10 @@ sight s h =
 abbrev pub turn : Settings → History → Turn
 turn s h = turn_by s (sight s h) (next h)
 
+-- when the next request of a number is due after these calls: of a number that isn't below the lowest one
+abbrev pub next_request : Settings → History → ℕ → Option ℕ
+next_request s h n = if nat_le (low (sight s h) (next h)) n then request_wake s (sight s h) n else None
+
 -- ---- how turns go on
 
 -- whether a reply changes nothing

@@ -1,12 +1,14 @@
 //! The lines of a log as text.
 #![tactic(auto)]
 
+mod dumped;
 mod words;
 
 ghost use Rattle.std.specs.Prelude.{◌≡◌, IfOk};
 ghost use Rattle.log_text.specs.Text.{line_text};
 
 use crate::words::Words;
+pub use dumped::dump_line;
 use rtp_units::{Blob, OutOfMemory};
 use std::alloc::Global;
 use timeline::BinLine;

@@ -2,7 +2,7 @@
 ghost use Rattle.std.specs.Prelude.{Some};
 ghost use Rattle.log_text.specs.Text.{line_words, word_text, kind_text, shape_text, fates_text};
 
-use first_model::Origin;
+use jitter_model::Origin;
 use std::fmt;
 use timeline::{BinLine, Word};
 
@@ -23,6 +23,14 @@ impl fmt::Display for Words<'_> {
                 let reason = Spelled(*reason);
                 write!(f, "{time} skip {record} {reason}")
             }
+            BinLine::Bad {
+                time,
+                session,
+                word,
+            } => {
+                let word = Spelled(*word);
+                write!(f, "{time} bad {session} {word}")
+            }
             BinLine::Pt {
                 time,
                 session,
@@ -35,6 +43,14 @@ impl fmt::Display for Words<'_> {
                 session,
                 ssrc,
             } => { write!(f, "{time} lane {lane} {session} {ssrc:08x}") }
+            BinLine::Unaside { time, lane, count } => write!(f, "{time} unaside {lane} {count}"),
+            BinLine::Aside { time, lane, seq } => write!(f, "{time} aside {lane} {seq}"),
+            BinLine::Restart {
+                time,
+                lane,
+                seq,
+                discarded,
+            } => { write!(f, "{time} restart {lane} {seq} {discarded}") }
             BinLine::Refuse {
                 time,
                 lane,
@@ -71,6 +87,12 @@ impl fmt::Display for Words<'_> {
                 pts,
                 duration,
             } => { write!(f, "{time} lost {lane} {number} {count} {pts} {duration}") }
+            BinLine::Request {
+                time,
+                lane,
+                number,
+                k,
+            } => { write!(f, "{time} request {lane} {number} {k}") }
             BinLine::End { time, lane } => write!(f, "{time} end {lane}"),
             BinLine::Done {
                 records,
@@ -90,8 +112,9 @@ impl fmt::Display for Words<'_> {
     }
 }
 
+/// A fixed word.
 #[derive(Drop)]
-struct Spelled(Word);
+pub struct Spelled(pub Word);
 
 impl fmt::Display for Spelled {
     ghost output = { λ word. Some (word_text word.0) };
@@ -99,10 +122,26 @@ impl fmt::Display for Spelled {
     fn fmt<W: fmt::Write>(&self, f: &mut fmt::Formatter<W>) -> fmt::Result {
         match self.0 {
             Word::Unbuilt => write!(f, "unbuilt"),
+            Word::Cut => write!(f, "cut"),
+            Word::NotIp => write!(f, "not-ip"),
+            Word::Fragment => write!(f, "fragment"),
+            Word::NotUdp => write!(f, "not-udp"),
+            Word::Malformed => write!(f, "malformed"),
+            Word::Big => write!(f, "big"),
+            Word::Port => write!(f, "port"),
+            Word::Short => write!(f, "short"),
+            Word::Version => write!(f, "version"),
+            Word::Csrc => write!(f, "csrc"),
+            Word::Extension => write!(f, "extension"),
+            Word::Padding => write!(f, "padding"),
+            Word::Length => write!(f, "length"),
+            Word::First => write!(f, "first"),
+            Word::Body => write!(f, "body"),
             Word::Late => write!(f, "late"),
             Word::Duplicate => write!(f, "duplicate"),
             Word::Full => write!(f, "full"),
-            Word::Far => write!(f, "far"),
+            Word::Stray => write!(f, "stray"),
+            Word::Flushing => write!(f, "flushing"),
             Word::Ended => write!(f, "ended"),
         }
     }

@@ -1,5 +1,6 @@
 -- What asking twice for bytes says of the record at a place.
-use Rattle.std.proofs.Common.{◌≡◌, ℕ, ◌+◌, ◌*◌, ◌≤◌, ◌<◌, List, [], ◌∷◌, ◌++◌, length, take, drop, IsTrue, refl, sym, ap, ◌∙◌, append_assoc, arith, inl, inr}
+use Rattle.std.proofs.Common.{◌≡◌, ℕ, ◌+◌, ◌*◌, ◌≤◌, ◌<◌, List, [], ◌∷◌, ◌++◌, length, take, drop, IsTrue, refl, sym, ap, ◌∙◌, append_assoc, arith, inl, inr, ◌^◌, Bool, true, false}
+use Rattle.std.specs.Prelude.{if◌then◌else◌}
 use Rattle.std.proofs.lemmas.Bool.{cases_lt}
 use Rattle.std.proofs.lemmas.List.{length-append, take_at, drop_at, nil_from_length}
 use Rattle.rtp_io.specs.Outside.{Disk}
@@ -92,18 +93,25 @@ none_behind format count offset bytes held mid rest a b c ok takes is = record {
   none = ap (λ (c : Capture). c.records) (records_fault format count offset (bytes ++ rest) (CutRecord offset) (cut_behind format count offset bytes rest ok is.1));
 }
 
-abbrev record_is : ℕ → ℕ → ℕ → ℕ → List ℕ → Record
+abbrev pub record_is : ℕ → ℕ → ℕ → ℕ → List ℕ → Record
 record_is link offset stamp original bytes = record { link = link; offset = offset; stamp = stamp; original = original; bytes = bytes }
 
-pub is_record : (format : Format) (count offset : ℕ) (bytes body held mid rest : List ℕ) (r : Record) (a b c : Disk) → Allows format count bytes → length body ≡ number_at format.order 4 8 bytes
+-- a stamp ends before 2 ^ 32 seconds
+stamp_early : (nanoseconds : Bool) (seconds fraction : ℕ) → seconds < 2 ^ 32 → fraction < (if nanoseconds then 1000000000 else 1000000)
+    → seconds * 1000000000 + fraction * (if nanoseconds then 1 else 1000) < 2 ^ 32 * 1000000000
+stamp_early true seconds fraction lt below = omega arith
+stamp_early false seconds fraction lt below = omega arith
+
+pub is_record : (format : Format) (count offset : ℕ) (bytes body held mid rest : List ℕ) (r : Record) (a b c : Disk) → Allows format count bytes → length body ≡ number_at format.order 4 8 bytes → number_at format.order 4 0 bytes < 2 ^ 32
     → r.link ≡ format.link → r.offset ≡ offset → r.stamp ≡ number_at format.order 4 0 bytes * 1000000000 + number_at format.order 4 4 bytes * fraction_unit format → r.original ≡ number_at format.order 4 12 bytes → r.bytes ≡ body
     → Takes bytes held mid a b → Takes body mid rest b c → IsRecord format count offset r held rest a c
-is_record format count offset bytes body held mid rest r a b c ok len link-is offset-is stamp-is original-is bytes-is first second = record {
+is_record format count offset bytes body held mid rest r a b c ok len small link-is offset-is stamp-is original-is bytes-is first second = record {
   taken = bytes ++ body;
   takes = takes_then bytes body held mid rest a b c first second;
   bound = ok.few;
   long = length-append bytes body ∙ omega (arith, ok.size, ap length bytes-is);
   short = omega (arith, ok.long, ap length bytes-is);
+  early = rw stamp-is (stamp_early format.nanoseconds (number_at format.order 4 0 bytes) (number_at format.order 4 4 bytes) small ok.fraction);
   stands = λ more.
       let all = body ++ more in
       let len-all = length-append bytes all in

@@ -45,7 +45,7 @@ capture_cut : (bytes : List ℕ) → length bytes < 24 → capture_of bytes ≡ 
 unfolding capture_of
 capture_cut bytes short = rw (lt-ltb (length bytes) 24 short) refl
 
-capture_behind : (bytes more : List ℕ) → length bytes ≡ 24 → capture_of (bytes ++ more) ≡ behind_header (format_of bytes) more
+pub capture_behind : (bytes more : List ℕ) → length bytes ≡ 24 → capture_of (bytes ++ more) ≡ behind_header (format_of bytes) more
 unfolding capture_of
 capture_behind bytes more len =
     rw (le-ltb (length (bytes ++ more)) 24 (omega (arith, length-append bytes more)), take_at bytes more 24 len, drop_at bytes more 24 len) refl

@@ -22,6 +22,8 @@ takes_record old new r held rest before after format count offset is = record {
   counted = count;
   placed = offset ∙ ap (λ (n : ℕ). old.offset + n) (sym is.long);
   bound = omega (arith, is.bound);
+  short = is.short;
+  early = is.early;
   onward = λ passed seen stands more.
       ap capture_of (append_assoc passed is.taken more) ∙ stands (is.taken ++ more)
       ∙ ap (λ (c : Capture). with_front seen c) (records_behind old.format old.count old.offset is.taken more r is.long (is.stands more)

@@ -1,5 +1,5 @@
 -- What reading a capture record by record leaves.
-use Rattle.std.specs.Prelude.{◌≡◌, ◌<◌, ◌≤◌, ℕ, ◌+◌, IsTrue, List, [], ◌∷◌, ◌++◌, length, Option, Some, None, Result, Ok, Err}
+use Rattle.std.specs.Prelude.{◌≡◌, ◌<◌, ◌≤◌, ℕ, ◌+◌, ◌*◌, ◌^◌, IsTrue, List, [], ◌∷◌, ◌++◌, length, Option, Some, None, Result, Ok, Err}
 use Rattle.rtp_io.specs.Outside.{Disk}
 use Rattle.rtp_io.specs.Pulled.{Keeps, Takes}
 use Rattle.pcap_file.specs.Faults.{OnFault}
@@ -25,6 +25,8 @@ pub record TakesRecord (old new : Place) (r : Record) (held rest : List ℕ) (be
   pub counted : new.count ≡ old.count + 1
   pub placed : new.offset ≡ old.offset + length taken
   pub bound : new.count ≤ 100000000
+  pub short : length r.bytes ≤ 262144
+  pub early : r.stamp < 2 ^ 32 * 1000000000
   pub onward : (passed : List ℕ) (seen : List Record) → StandsFor old passed seen → StandsFor new (passed ++ taken) (seen ++ r ∷ [])
 
 -- The records before this place are all, and then comes this.
@@ -79,6 +81,7 @@ pub record IsRecord (format : Format) (count offset : ℕ) (r : Record) (held re
   pub bound : count < 100000000
   pub long : length taken ≡ 16 + length r.bytes
   pub short : length r.bytes ≤ 262144
+  pub early : r.stamp < 2 ^ 32 * 1000000000
   pub stands : (more : List ℕ) → head format count offset (taken ++ more) ≡ AtRecord r
 
 pub record IsEnd (format : Format) (count offset : ℕ) (held rest : List ℕ) (before after : Disk) : Type 0 where

@@ -1,5 +1,5 @@
 //! The UDP datagram in a captured frame, and what comes first in a frame by its link type.
-ghost use Rattle.std.specs.Prelude.{◌≡◌, ◌≤◌, ◌+◌};
+ghost use Rattle.std.specs.Prelude.{◌≡◌, ◌≤◌, ◌+◌, IfOk, length};
 ghost use Rattle.pcap_file.specs.Reading.{record_view};
 ghost use Rattle.pcap_file.specs.Datagrams.{sent, datagram_of, inner_of, frame, null, cooked, ethernet, untagged as untagged_of, is_tag as tag_test, raw, by_type};
 
@@ -35,7 +35,8 @@ const TYPE_SERVICE_TAG: u16 = 0x88a8;
 /// The datagram of a record whose frame has this link type, or the first test that fails.
 #[tactic(auto, unfolding(crate::specs::Datagrams::datagram_of))]
 pub fn datagram<'a>(link: u16, rec: &'a PcapRecord) -> Result<Datagram<'a>, Skip>
-    ensures { sent result ≡ datagram_of (record_view link rec.now) }
+    ensures answer { sent result ≡ datagram_of (record_view link rec.now) }
+    ensures small { IfOk result (λ sent. length sent.payload.now ≤ 9216) }
 {
     let bytes = rec.bytes.bytes();
     if bytes.len() < rec.original as usize {
@@ -47,7 +48,8 @@ pub fn datagram<'a>(link: u16, rec: &'a PcapRecord) -> Result<Datagram<'a>, Skip
 // Reads a frame of this link type.
 #[tactic(auto, unfolding(crate::specs::Datagrams::frame))]
 fn read_frame(link: u16, bytes: &[u8]) -> Result<Datagram<'_>, Skip>
-    ensures { sent result ≡ frame link bytes.now }
+    ensures answer { sent result ≡ frame link bytes.now }
+    ensures small { IfOk result (λ sent. length sent.payload.now ≤ 9216) }
 {
     match link {
         NULL => read_null(bytes),
@@ -64,7 +66,8 @@ fn read_frame(link: u16, bytes: &[u8]) -> Result<Datagram<'_>, Skip>
 // Four bytes tell the address family, and are not looked at.
 #[tactic(auto, using(std::proofs::lemmas::List::take_rest), unfolding(crate::specs::Datagrams::null))]
 fn read_null(bytes: &[u8]) -> Result<Datagram<'_>, Skip>
-    ensures { sent result ≡ null bytes.now }
+    ensures answer { sent result ≡ null bytes.now }
+    ensures small { IfOk result (λ sent. length sent.payload.now ≤ 9216) }
 {
     if bytes.len() < 4 {
         return Err(Skip::Malformed);
@@ -76,7 +79,8 @@ fn read_null(bytes: &[u8]) -> Result<Datagram<'_>, Skip>
 #[tactic(auto, using(std::proofs::lemmas::List::take_rest), unfolding(crate::specs::Datagrams::cooked))]
 fn read_cooked(bytes: &[u8], size: usize, place: usize) -> Result<Datagram<'_>, Skip>
     requires { place + 2 ≤ size }
-    ensures { sent result ≡ cooked size place bytes.now }
+    ensures answer { sent result ≡ cooked size place bytes.now }
+    ensures small { IfOk result (λ sent. length sent.payload.now ≤ 9216) }
 {
     if bytes.len() < size {
         return Err(Skip::Malformed);
@@ -87,7 +91,8 @@ fn read_cooked(bytes: &[u8], size: usize, place: usize) -> Result<Datagram<'_>, 
 // An IP packet alone.
 #[tactic(auto, unfolding(crate::specs::Datagrams::raw))]
 fn read_raw(bytes: &[u8]) -> Result<Datagram<'_>, Skip>
-    ensures { sent result ≡ raw bytes.now }
+    ensures answer { sent result ≡ raw bytes.now }
+    ensures small { IfOk result (λ sent. length sent.payload.now ≤ 9216) }
 {
     if bytes.is_empty() {
         return Err(Skip::Malformed);
@@ -102,7 +107,8 @@ fn read_raw(bytes: &[u8]) -> Result<Datagram<'_>, Skip>
 // Two addresses of six bytes and an EtherType.
 #[tactic(auto, unfolding(crate::specs::Datagrams::ethernet))]
 fn read_ethernet(bytes: &[u8]) -> Result<Datagram<'_>, Skip>
-    ensures { sent result ≡ ethernet bytes.now }
+    ensures answer { sent result ≡ ethernet bytes.now }
+    ensures small { IfOk result (λ sent. length sent.payload.now ≤ 9216) }
 {
     if bytes.len() < 14 {
         return Err(Skip::Malformed);
@@ -137,7 +143,8 @@ fn is_tag(kind: u16) -> bool
 
 #[tactic(auto, unfolding(crate::specs::Datagrams::by_type))]
 fn read_typed(kind: u16, bytes: &[u8]) -> Result<Datagram<'_>, Skip>
-    ensures { sent result ≡ by_type kind bytes.now }
+    ensures answer { sent result ≡ by_type kind bytes.now }
+    ensures small { IfOk result (λ sent. length sent.payload.now ≤ 9216) }
 {
     match kind {
         TYPE_IPV4 => read_ipv4(bytes),

@@ -9,10 +9,14 @@ mod network;
 mod order;
 mod pcap;
 mod record;
+#[cfg(test)]
+mod tests;
 mod udp;
+mod write;
 
 pub use fault::CaptureFault;
 pub use frame::datagram;
 pub use pcap::{Pcap, open_capture};
 pub use record::{MAX_LENGTH, MAX_RECORDS, PcapRecord};
 pub use udp::{Datagram, Skip};
+pub use write::{header_bytes, record_bytes};

@@ -1,5 +1,5 @@
 //! IP packets, and the UDP datagrams in them.
-ghost use Rattle.std.specs.Prelude.{◌≡◌, ◌+◌, ◌≤◌, ◌++◌, length, replicate};
+ghost use Rattle.std.specs.Prelude.{◌≡◌, ◌+◌, ◌≤◌, ◌++◌, length, replicate, IfOk};
 ghost use Rattle.pcap_file.specs.Datagrams.{sent, inner_of, ipv4, ipv6, udp, behind_extensions as behind_extensions_of, is_extension as extension_test, is_fragment as fragment_test, widened, upper};
 
 use crate::order::Order;
@@ -30,7 +30,8 @@ pub(crate) struct Carried<'a> {
 /// Reads an IPv4 packet. Bytes past its total length are dropped, and its options are passed over.
 #[tactic(auto, unfolding(crate::specs::Datagrams::ipv4))]
 pub(crate) fn read_ipv4(bytes: &[u8]) -> Result<Datagram<'_>, Skip>
-    ensures { sent result ≡ ipv4 bytes.now }
+    ensures answer { sent result ≡ ipv4 bytes.now }
+    ensures small { IfOk result (λ sent. length sent.payload.now ≤ 9216) }
 {
     if bytes.len() < 20 || bytes[0] / 16 != 4 {
         return Err(Skip::Malformed);
@@ -82,7 +83,8 @@ fn address_of(ip: &[u8]) -> [u8; 16]
 /// and destination options are passed over.
 #[tactic(auto, unfolding(crate::specs::Datagrams::ipv6))]
 pub(crate) fn read_ipv6(bytes: &[u8]) -> Result<Datagram<'_>, Skip>
-    ensures { sent result ≡ ipv6 bytes.now }
+    ensures answer { sent result ≡ ipv6 bytes.now }
+    ensures small { IfOk result (λ sent. length sent.payload.now ≤ 9216) }
 {
     if bytes.len() < 40 || bytes[0] / 16 != 6 {
         return Err(Skip::Malformed);
@@ -103,7 +105,8 @@ pub(crate) fn read_ipv6(bytes: &[u8]) -> Result<Datagram<'_>, Skip>
 
 // What stands behind the extension headers of an IPv6 packet.
 fn read_upper(from: [u8; 16], to: [u8; 16], kind: u16, bytes: &[u8]) -> Result<Datagram<'_>, Skip>
-    ensures { sent result ≡ upper from to (Ok (record { kind = kind; bytes = bytes.now })) }
+    ensures answer { sent result ≡ upper from to (Ok (record { kind = kind; bytes = bytes.now })) }
+    ensures small { IfOk result (λ sent. length sent.payload.now ≤ 9216) }
 {
     match kind {
         FRAGMENT => Err(Skip::Fragment),
@@ -139,7 +142,8 @@ fn is_extension(kind: u16) -> bool
 // Reads a UDP datagram. Bytes past its length are dropped.
 #[tactic(auto, unfolding(crate::specs::Datagrams::udp))]
 fn read_udp(family: u8, from: [u8; 16], to: [u8; 16], bytes: &[u8]) -> Result<Datagram<'_>, Skip>
-    ensures { sent result ≡ udp family from to bytes.now }
+    ensures answer { sent result ≡ udp family from to bytes.now }
+    ensures small { IfOk result (λ sent. length sent.payload.now ≤ 9216) }
 {
     if bytes.len() < 8 {
         return Err(Skip::Malformed);

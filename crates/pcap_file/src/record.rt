@@ -113,6 +113,7 @@ struct Fields {
 
 fn fields_of(order: Order, bytes: &[u8]) -> Fields
     requires { length bytes.now ≡ 16 }
+    ensures small { result.seconds < 2 ^ 32 }
     ensures seconds { result.seconds ≡ number_at order 4 0 bytes.now }
     ensures fraction { result.fraction ≡ number_at order 4 4 bytes.now }
     ensures length { result.length ≡ number_at order 4 8 bytes.now }

@@ -16,15 +16,6 @@ no_usage (Err (stop.Capture fault)) form f e other = λ none. cc
 no_usage (Err stop.Write) form f e other = λ none. cc
 no_usage (Err stop.Memory) form f e other = λ none. cc
 
--- an error is of a form whatever the answer would have been
-pub stopped : (A : Type 0) (s : Stop) → IsOfForm {A = A} (Err s) → IsOfForm {A = Unit {0}} (Err s)
-stopped A stop.Usage h = h
-stopped A (stop.Script fault) h = tt
-stopped A stop.Read h = tt
-stopped A (stop.Capture fault) h = tt
-stopped A stop.Write h = tt
-stopped A stop.Memory h = tt
-
 -- where a run stopped and its status isn't Write, no write of the output failed
 pub taken : (s : Stop) (r : Status) (old new : Option (List ℕ)) (e e' f f' o o' : ℕ) → HasStopCause {A = Unit {0}} (Err s) f f' o o' → Reports r s old new e e' → r ≢ status.Write → o' ≡ o
 taken stop.Usage r old new e e' f f' o o' cause told other = cause.1

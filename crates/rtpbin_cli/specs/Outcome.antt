@@ -3,15 +3,15 @@ use Rattle.std.specs.Prelude.{◌≡◌, ◌≢◌, ◌<◌, ◌⊎◌, ℕ, IsT
 use Rattle.std.specs.Fmt.{decimal}
 use Rattle.rtp_io.specs.Outside.{Disk, Adds, AddsFront}
 use Rattle.pcap_file.specs.declared.fault.CaptureFault.{CaptureFault}
-use Rattle.pcap_file.specs.declared.fault.CaptureFault.TheVariants.{CutHeader, CutRecord, Unbuilt, ReadFault}
 use Rattle.pcap_file.specs.declared.fault.CaptureFault.TheVariants as faults
+use Rattle.pcap_file.specs.Faults.{offset_of, word_of}
 use Rattle.rtpbin_cli.specs.declared.status.Status.{Status}
 use Rattle.rtpbin_cli.specs.declared.status.Status.TheVariants as status
 use Rattle.rtpbin_cli.specs.declared.stop.Stop.{Stop}
 use Rattle.rtpbin_cli.specs.declared.stop.Stop.TheVariants as stop
 use Rattle.rtpbin_cli.specs.declared.script.ScriptCause.{ScriptCause}
 use Rattle.rtpbin_cli.specs.declared.script.ScriptCause.TheVariants as causes
-use Rattle.rtpbin_cli.specs.Words.{Form}
+use Rattle.rtpbin_cli.specs.Words.{Form, Replay, Dump}
 
 abbrev pub status_of_stop : Stop → Status
 status_of_stop stop.Usage = status.Usage
@@ -23,7 +23,7 @@ status_of_stop stop.Memory = status.Memory
 
 -- what a fault of the capture ends a run with
 abbrev pub stop_of_fault : CaptureFault → Stop
-stop_of_fault ReadFault = stop.Read
+stop_of_fault faults.ReadFault = stop.Read
 stop_of_fault faults.OutOfMemory = stop.Memory
 stop_of_fault fault = stop.Capture fault
 
@@ -34,11 +34,7 @@ cause_text causes.Size = codes "size"
 cause_text causes.Unbuilt = codes "unbuilt"
 
 abbrev pub capture_text : CaptureFault → List ℕ
-capture_text CutHeader = codes "0: cut-header"
-capture_text (CutRecord offset) = decimal offset ++ codes ": cut-record"
-capture_text (Unbuilt offset) = decimal offset ++ codes ": unbuilt"
-capture_text ReadFault = []
-capture_text faults.OutOfMemory = []
+capture_text fault = decimal (offset_of fault) ++ codes ": " ++ word_of fault
 
 abbrev pub memory_text : List ℕ
 memory_text = codes "rtpbin: out of memory\n"
@@ -84,7 +80,8 @@ IsUsageOr answer = ⊥
 -- the names of the form may be opened
 abbrev pub MayOpen : Option Form → Disk → Type 0
 MayOpen None disk = Unit {0}
-MayOpen (Some form) disk = IsTrue (disk.may_open form.script) × IsTrue (disk.may_open form.capture)
+MayOpen (Some (Replay hex capture script)) disk = IsTrue (disk.may_open script) × IsTrue (disk.may_open capture)
+MayOpen (Some (Dump capture)) disk = IsTrue (disk.may_open capture)
 
 -- ---- the steps of a run
 

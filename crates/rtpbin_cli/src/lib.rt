@@ -1,6 +1,8 @@
 //! The top call of `rtpbin`: words, files and sinks in, a status out.
 #![tactic(auto)]
 
+mod clock;
+mod dump;
 mod replay;
 mod script;
 mod status;

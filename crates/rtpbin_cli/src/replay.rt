@@ -1,8 +1,9 @@
 //! Replaying a capture, record by record.
 ghost use Rattle.std.specs.Prelude.{◌<◌, ◌≤◌, ◌-◌, ◌^◌};
-ghost use Rattle.jitter_core.specs.Stands.{IsValid};
+ghost use Rattle.bin_core.specs.Stages.{IsOneSession};
 ghost use Rattle.rtpbin_cli.specs.Outcome.{HasStopCause, HasTellCause, IsOfForm};
 
+use crate::clock::{START, pass};
 use crate::stop::{Stop, stop_of};
 use bin_core::{Bin, BinLine, Lines};
 use jitter_core::Settings;
@@ -20,7 +21,7 @@ pub fn replay_open<F: Files, O: Sink>(
     files: &mut F,
     out: &mut O,
 ) -> Result<(), Stop>
-    requires valid { IsValid settings.now }
+    requires settings { IsOneSession settings.now }
     requires files { F.faults files.old < 2 ^ 64 - 1 }
     requires out { O.faults out.old < 2 ^ 64 - 1 }
     ensures of_form { IsOfForm result }
@@ -35,17 +36,14 @@ pub fn replay_open<F: Files, O: Sink>(
         Err(fault) => return Err(stop_of(fault)),
     };
     let mut bin = Bin::new(settings);
-    let mut clock = Clock {
-        first: None,
-        time: 0,
-    };
+    let mut clock = START;
     let mut lines = Lines::new(alloc);
     'records: loop {
         match pcap.next(alloc, files, &mut pull) {
             Ok(Some(entry)) => {
                 clock = pass(clock, entry.stamp);
                 let n = bin.records() + 1;
-                let took = bin.take_record(alloc, n, clock.time, 1, &entry, &mut lines);
+                let took = bin.take_record(alloc, n, clock.time, pcap.link(), &entry, &mut lines);
                 match tell(alloc, took, &mut lines, hex, out) {
                     Ok(()) => {}
                     Err(stop) => return Err(stop),
@@ -57,26 +55,6 @@ pub fn replay_open<F: Files, O: Sink>(
             }
             Err(fault) => return Err(stop_of(fault)),
         }
-    }
-}
-
-// The stamp of the first record, and the greatest time so far: time 0 is that stamp.
-#[derive(Clone, Copy)]
-struct Clock {
-    first: Option<u64>,
-    time: u64,
-}
-
-fn pass(clock: Clock, stamp: u64) -> Clock
-    requires stamp { stamp < 2 ^ 63 }
-    requires time { clock.time < 2 ^ 63 }
-    ensures onward { clock.time ≤ result.time }
-    ensures small { result.time < 2 ^ 63 }
-{
-    let first = clock.first.unwrap_or(stamp);
-    Clock {
-        first: Some(first),
-        time: clock.time.max(stamp.saturating_sub(first)),
     }
 }
 

@@ -64,12 +64,9 @@ impl fmt::Display for CapturePlace {
     ghost output = { λ place. Some (capture_text place.0) };
 
     fn fmt<W: fmt::Write>(&self, f: &mut fmt::Formatter<W>) -> fmt::Result {
-        match self.0 {
-            CaptureFault::CutHeader => write!(f, "0: cut-header"),
-            CaptureFault::CutRecord(offset) => write!(f, "{offset}: cut-record"),
-            CaptureFault::Unbuilt(offset) => write!(f, "{offset}: unbuilt"),
-            CaptureFault::ReadFault | CaptureFault::OutOfMemory => Ok(()),
-        }
+        let offset = self.0.offset();
+        let word = self.0.word();
+        write!(f, "{offset}: {word}")
     }
 }
 

@@ -1,4 +1,6 @@
 //! Worked cases over files and sinks in memory: what is written, and how the run ends.
+ghost use Rattle.std.specs.Prelude.{◌<◌};
+
 use crate::status::Status;
 use crate::tool::run_tool;
 use rtp_io::{MemoryFiles, MemorySink};
@@ -173,5 +175,82 @@ fn ends(rt: HostRuntime) -> Result<(), Fail> {
         assert_eq!(rt; out.bytes().len(), size, "output at {i}");
         assert_eq!(rt; err.bytes(), text, "errors at {i}");
     }
+    Ok(())
+}
+
+const STEADY: [Sent; 3] = [(1, 0, 0), (2, 20, 1800), (3, 40, 3600)];
+
+const STEADY_LOG: &[u8] =
+    b"0 pt 0 96 90000\n0 lane 0 0 11223344\n100000000 out 0 65537 0 96 0 4\n100000000 out 0 65538 20000000 96 0 4\n100000000 out 0 65539 40000000 96 0 4\n100000000 end 0\ndone 3 1 3 0 0\n";
+
+// The write that fails, and how many bytes the lines before it have; no write is the eighth.
+const WRITES: [(u64, usize); 8] = [
+    (1, 0),
+    (2, 16),
+    (3, 36),
+    (4, 67),
+    (5, 105),
+    (6, 143),
+    (7, 159),
+    (8, 174),
+];
+
+// A run of the steady packets in which a call on the files, a write, or neither fails, and a read or a
+// write moves at most `step` bytes: the status, and how much of the log is written.
+fn run_failing(
+    alloc: Global,
+    call: u64,
+    write: u64,
+    step: usize,
+) -> Result<(Status, usize, bool), OutOfMemory>
+    requires { 0 < step }
+{
+    let mut words = Vec::new(alloc);
+    words.push(String::from_str(alloc, "replay")?)?;
+    words.push(String::from_str(alloc, "c")?)?;
+    words.push(String::from_str(alloc, "s")?)?;
+    let mut files = MemoryFiles::new(alloc)?;
+    files.add(alloc, "c", &capture_of(alloc, &STEADY)?)?;
+    files.add(alloc, "s", SCRIPT)?;
+    files.fail_at(call)?;
+    files.set_step(step);
+    let mut out = MemorySink::with_room(alloc, 1000)?;
+    out.fail_at(write)?;
+    out.set_step(step);
+    let mut err = MemorySink::with_room(alloc, 1000)?;
+    let status = run_tool(alloc, &words, &mut files, &mut out, &mut err);
+    let written = out.bytes();
+    Ok((status, written.len(), STEADY_LOG.starts_with(written)))
+}
+
+#[test]
+fn failures(rt: HostRuntime) -> Result<(), Fail> {
+    let alloc = rt.alloc();
+    for (write, front) in WRITES {
+        let (status, size, is_front) = run_failing(alloc, 0, write, 10_000)?;
+        let wanted = if write == 8 {
+            Status::Done
+        } else {
+            Status::Write
+        };
+        assert_eq!(rt; status, wanted, "write {write}");
+        assert_eq!(rt; size, front, "write {write}");
+        assert!(rt; is_front, "write {write}");
+    }
+    let mut done = 0;
+    for call in 1..=12 {
+        let (status, size, is_front) = run_failing(alloc, call, 0, 10_000)?;
+        assert!(rt; is_front, "call {call}");
+        if status == Status::Done {
+            done += 1;
+            assert_eq!(rt; size, STEADY_LOG.len(), "call {call}");
+        } else {
+            assert_eq!(rt; status, Status::Read, "call {call}");
+            assert!(rt; done == 0, "call {call}");
+        }
+    }
+    assert!(rt; done > 0);
+    let (status, size, is_front) = run_failing(alloc, 0, 0, 1)?;
+    assert!(rt; status == Status::Done && size == STEADY_LOG.len() && is_front);
     Ok(())
 }

@@ -1,18 +1,23 @@
 //! The top call.
 ghost use Rattle.std.specs.Prelude.{◌≡◌, ◌≢◌, ◌<◌, ◌-◌, ◌^◌, ◌≤◌, None, IsTrue, IfOk, length};
-ghost use Rattle.jitter_core.specs.Stands.{IsValid};
+ghost use Rattle.bin_core.specs.Stages.{IsOneSession};
 ghost use Rattle.rtp_io.specs.Outside.{SameDisk};
 ghost use Rattle.rtpbin_cli.specs.Words.{form_of, texts};
 ghost use Rattle.rtpbin_cli.specs.Outcome.{HasFixedErr, HasStatusCause, HasStopCause, IsOfForm, IsUsage, IsUsageOr, MayOpen, Reports, Told};
 
+use crate::dump::dump_open;
 use crate::replay::replay_open;
 use crate::script::{MAX_SCRIPT, latency_of};
 use crate::status::Status;
 use crate::stop::Stop;
-use crate::words::form_of_words;
+use crate::words::{Asked, asked_by};
 use jitter_core::Settings;
 use rtp_io::{Failed, Files, Sink, read_up_to, write_piece};
+use rtp_units::Mode;
 use std::alloc::{AllocError, Global};
+
+/// The pushers of a lane as a set of bits: session 0 and the control.
+const SESSION_AND_CONTROL: u16 = 0b1_0000_0001;
 
 /// Does what the words ask for, and answers how it ended. The text of a status other than `Done` and
 /// `Write` goes to `err`.
@@ -85,16 +90,44 @@ fn run<F: Files, O: Sink>(
     ensures usage { IsUsage result (form_of (texts words.now)) }
     ensures cause { HasStopCause result (F.faults files.old) (F.faults files.new) (O.faults out.old) (O.faults out.new) }
 {
-    let form = match form_of_words(words) {
-        Some(form) => form,
-        None => return Err(Stop::Usage),
-    };
-    let settings = match read_script(alloc, files, form.script) {
+    match asked_by(words) {
+        Some(
+            Asked::Replay {
+                hex,
+                capture,
+                script,
+            },
+        ) => replay(alloc, hex, capture, script, files, out),
+        Some(Asked::Dump { capture }) => match files.open_file(capture) {
+            Ok(()) => dump_open(alloc, files, out),
+            Err(Failed) => Err(Stop::Read),
+        },
+        None => Err(Stop::Usage),
+    }
+}
+
+// Reads the script, and then replays the capture by it.
+fn replay<F: Files, O: Sink>(
+    alloc: Global,
+    hex: bool,
+    capture: &str,
+    script: &str,
+    files: &mut F,
+    out: &mut O,
+) -> Result<(), Stop>
+    requires script { IsTrue ((F.disk files.old).may_open script.now) }
+    requires capture { IsTrue ((F.disk files.old).may_open capture.now) }
+    requires files { F.faults files.old < 2 ^ 64 - 1 }
+    requires out { O.faults out.old < 2 ^ 64 - 1 }
+    ensures of_form { IsOfForm result }
+    ensures cause { HasStopCause result (F.faults files.old) (F.faults files.new) (O.faults out.old) (O.faults out.new) }
+{
+    let settings = match read_script(alloc, files, script) {
         Ok(settings) => settings,
         Err(stop) => return Err(stop),
     };
-    match files.open_file(form.capture) {
-        Ok(()) => replay_open(alloc, &settings, form.hex, files, out),
+    match files.open_file(capture) {
+        Ok(()) => replay_open(alloc, &settings, hex, files, out),
         Err(Failed) => Err(Stop::Read),
     }
 }
@@ -104,7 +137,7 @@ fn read_script<F: Files>(alloc: Global, files: &mut F, name: &str) -> Result<Set
     requires may_open { IsTrue ((F.disk files.old).may_open name.now) }
     requires countable { F.faults files.old < 2 ^ 64 - 1 }
     ensures same { SameDisk (F.disk files.old) (F.disk files.new) }
-    ensures valid { IfOk result IsValid }
+    ensures settings { IfOk result IsOneSession }
     ensures of_form { IsOfForm result }
     ensures cause { HasStopCause result (F.faults files.old) (F.faults files.new) 0 0 }
 {
@@ -128,13 +161,21 @@ fn read_script<F: Files>(alloc: Global, files: &mut F, name: &str) -> Result<Set
 // The settings of the one script that is built, with its latency.
 fn settings_with(latency_ms: u64) -> Settings
     requires { latency_ms ≤ 600000 }
-    ensures { IsValid result }
+    ensures { IsOneSession result }
 {
     Settings {
         rate: 90_000,
+        mode: Mode::Plain,
         latency: latency_ms * 1_000_000,
+        rtx: false,
+        rtx_delay: 20_000_000,
+        rtx_retry: 40_000_000,
+        rtx_max: 3,
+        reorder: 3,
         dropout: 3000,
         misorder: 100,
+        faststart: 0,
+        pushers: SESSION_AND_CONTROL,
     }
 }
 

@@ -1,24 +1,57 @@
 //! Lines of a log, before they are text.
 ghost use Rattle.std.specs.Prelude.{◌≡◌, ◌++◌, ◌∷◌, [], OnOk, OnErr};
 
-use first_model::Origin;
+use jitter_model::Origin;
 use rtp_units::{Blob, OutOfMemory};
 use std::alloc::Global;
 use std::marker::Model;
 
-/// A fixed word of a line: why a record was skipped, or why a packet was refused.
+/// A fixed word of a line: why a record was skipped, why a payload is no RTP packet, or why a packet
+/// was refused.
 #[derive(Clone, Copy, Debug, PartialEq, Eq, Drop)]
 pub enum Word {
-    /// The record or datagram has a form that is not built yet.
+    /// The datagram has a form that is not built yet.
     Unbuilt,
+    /// The record includes fewer bytes than the frame had.
+    Cut,
+    /// The frame carries no IP packet.
+    NotIp,
+    /// The IP packet is a fragment.
+    Fragment,
+    /// The IP packet carries no UDP datagram.
+    NotUdp,
+    /// Bytes are missing in the headers, or they contradict each other.
+    Malformed,
+    /// The payload is longer than 9,216 bytes.
+    Big,
+    /// No session has the datagram's destination port.
+    Port,
+    /// The payload has fewer than 12 bytes.
+    Short,
+    /// The version is not 2.
+    Version,
+    /// The CSRCs are not all there.
+    Csrc,
+    /// The header extension is not all there.
+    Extension,
+    /// The padding count is 0 or more than what is left.
+    Padding,
+    /// The RTCP packet passes the end.
+    Length,
+    /// A compound does not begin with a type of RTCP.
+    First,
+    /// The body of an RTCP packet does not have the form of its type.
+    Body,
     /// The number has been covered by an earlier packet or loss.
     Late,
     /// A packet of this number was accepted before.
     Duplicate,
     /// There is no room for the number.
     Full,
-    /// The number is far from all others.
-    Far,
+    /// A retransmission, and nothing was accepted before it.
+    Stray,
+    /// A flush runs.
+    Flushing,
     /// The pusher has ended.
     Ended,
 }
@@ -31,6 +64,12 @@ pub enum BinLine {
         time: u64,
         record: u64,
         reason: Word,
+    },
+    /// A payload on an RTP port that is no RTP packet.
+    Bad {
+        time: u64,
+        session: u8,
+        word: Word,
     },
     /// A payload type is first routed, with its clock rate.
     Pt {
@@ -45,6 +84,25 @@ pub enum BinLine {
         lane: u8,
         session: u8,
         ssrc: u32,
+    },
+    /// A push dropped packets that had been put aside.
+    Unaside {
+        time: u64,
+        lane: u8,
+        count: u32,
+    },
+    /// A packet far from all others is put aside.
+    Aside {
+        time: u64,
+        lane: u8,
+        seq: u16,
+    },
+    /// The fifth far packet in a row begins a new segment; `discarded` held packets are dropped.
+    Restart {
+        time: u64,
+        lane: u8,
+        seq: u16,
+        discarded: u32,
     },
     /// A packet that its lane did not take.
     Refuse {
@@ -73,6 +131,13 @@ pub enum BinLine {
         count: u32,
         pts: u64,
         duration: u64,
+    },
+    /// The packet of this number is requested for the time `k`, counted from 0.
+    Request {
+        time: u64,
+        lane: u8,
+        number: u64,
+        k: u8,
     },
     /// A lane has given all that it had.
     End {

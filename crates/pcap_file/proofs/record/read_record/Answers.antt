@@ -68,4 +68,4 @@ returns-in_ok-copy_of-in-Ok-need-clause-after g c =
     let second = rw (c.in-Ok-need.is) at c.need-2.follows.holds-at-none in
     let ok : Allows c.args.format c.args.count c.in-Ok.bytes.now = record { size = c.in-Ok.ensures.length; few = c.if-count-ge-MAX_RECORDS-2.false; long = rw (← fields.length) c.if-fields-gt-MAX_LENGTH.false; fraction = rw (← fields.fraction, ← c.fraction_limit.ensures) c.if-fields-fraction_limit.false } in
     is_record c.args.format c.args.count c.args.offset c.in-Ok.bytes.now c.in-Ok-need.bytes.now c.args.pull.now c.need.follows.lender-at-none c.need-2.follows.lender-at-none _ _ _ _ ok
-    (c.in-Ok-need.ensures.length ∙ fields.length) refl refl (rw (c.from.ensures, c.from-in-Ok-need.ensures, fields.seconds, fields.fraction, c.fraction_unit.ensures.unit) refl) fields.original c.in_ok-copy_of-in-Ok-need.ensures first.0 second.0
+    (c.in-Ok-need.ensures.length ∙ fields.length) (rw (← fields.seconds) fields.small) refl refl (rw (c.from.ensures, c.from-in-Ok-need.ensures, fields.seconds, fields.fraction, c.fraction_unit.ensures.unit) refl) fields.original c.in_ok-copy_of-in-Ok-need.ensures first.0 second.0

@@ -1,11 +1,18 @@
 use Rattle.std.proofs.Common.{refl, []}
-use Rattle.jitter_core.proofs.Pushes.{empty_stands}
+use Rattle.jitter_core.proofs.Reached.{new_stands, none_ended}
 use Rattle.jitter_core.proofs.buffer.Buffer.new.Goals as goal
 
 pub returns-clause-stands : goal.returns-clause-stands
 returns-clause-stands c =
-    empty_stands _ c.requires (record { pushes = refl; time = refl; next = refl; top = refl; least = refl; held = c.new.ensures; session_ended = refl; control_ended = refl; end_told = refl; clock = refl; marks = c.new-2.ensures.items })
+    new_stands _ c.requires.valid c.requires.built
+    (record { pushes = refl; time = refl; latency = refl; flushing = refl; ended_long = refl; ended = none_ended; end_told = refl; next = refl; top = refl; least = refl; first_pts = refl; count = refl; held = c.in_ok-held.ensures; aside = c.new-4.ensures; skew_rate = c.in_ok-skew.ensures.rate; skew_mode = c.in_ok-skew.ensures.mode; skew = c.in_ok-skew.ensures.stands; heights = c.in_ok-heights.ensures })
 
 pub invariant_of-result : goal.invariant_of-result
 invariant_of-result c =
-    record { reached = ∣ ([], empty_stands _ c.requires (record { pushes = refl; time = refl; next = refl; top = refl; least = refl; held = c.new.ensures; session_ended = refl; control_ended = refl; end_told = refl; clock = refl; marks = c.new-2.ensures.items })) ∣₁ }
+    record {
+      reached = ∣ (
+        [],
+        new_stands _ c.requires.valid c.requires.built
+            (record { pushes = refl; time = refl; latency = refl; flushing = refl; ended_long = refl; ended = none_ended; end_told = refl; next = refl; top = refl; least = refl; first_pts = refl; count = refl; held = c.in_ok-held.ensures; aside = c.new-4.ensures; skew_rate = c.in_ok-skew.ensures.rate; skew_mode = c.in_ok-skew.ensures.mode; skew = c.in_ok-skew.ensures.stands; heights = c.in_ok-heights.ensures }),
+      ) ∣₁;
+    }

@@ -1,30 +1,37 @@
-use Rattle.std.proofs.Common.{arith}
-use Rattle.std.proofs.Math.Logic.{∥∥₁_elim}
-use Rattle.std.proofs.Props.{props}
-use Rattle.jitter_core.specs.Stands.{after_push}
-use Rattle.jitter_core.proofs.Pushes.{push_keeps, push_verdict}
-use Rattle.jitter_core.proofs.Bounds.{reached_bounded, reached_room}
+use Rattle.std.proofs.Common.{◌∷◌, arith}
+use Rattle.jitter_model.specs.declared.Entry.TheVariants.{Push}
+use Rattle.jitter_core.proofs.Passing.{pusher_small}
+use Rattle.jitter_core.proofs.Pushes.{push_keeps, push_value}
+use Rattle.jitter_core.proofs.Reached.{reached_after, reached_bounded, reached_list, reached_run, reached_pushers}
 use Rattle.jitter_core.proofs.buffer.Buffer.push.Goals as goal
 
 pub push_on-requires-clause-bounded : goal.push_on-requires-clause-bounded
 push_on-requires-clause-bounded c = reached_bounded c.args.self.now.state c.args.self.now.reached
 
-pub push_on-requires-clause-clock : goal.push_on-requires-clause-clock
-push_on-requires-clause-clock c = reached_room c.args.self.now.state c.args.self.now.reached c.requires.few
+pub push_on-requires-clause-aside : goal.push_on-requires-clause-aside
+push_on-requires-clause-aside c = reached_list c.args.self.now.state c.args.self.now.reached
+
+pub push_on-requires-clause-run : goal.push_on-requires-clause-run
+push_on-requires-clause-run c = reached_run c.args.self.now.state c.args.self.now.reached
+
+pub push_on-requires-clause-range : goal.push_on-requires-clause-range
+push_on-requires-clause-range c = record { pusher = omega arith; k = omega arith; stamp = c.requires.stamp; seq = omega arith; rtp = omega arith; pt = omega arith; payload = omega arith }
+
+pub push_on-requires-clause-pusher : goal.push_on-requires-clause-pusher
+push_on-requires-clause-pusher c = pusher_small c.args.self.now.state.settings.pushers c.args.a.pusher (reached_pushers c.args.self.now.state c.args.self.now.reached) c.requires.pusher
 
 pub invariant_of-self : goal.invariant_of-self
 invariant_of-self c =
     record {
-      reached = ∥∥₁_elim c.args.self.now.reached (hlevel props) (λ x.
-          ∣ (
-            after_push c.args.a c.push_on.result.verdict c.push_on.result.number x.0,
-            push_keeps c.args.self.now.state c.push_on.new.state x.0 c.args.a c.push_on.result.verdict c.push_on.result.number x.1 c.requires.few (record { stamp = c.requires.stamp; seq = omega arith; rtp = omega arith; original = c.requires.origin }) c.requires.pusher c.push_on.ensures.number c.push_on.ensures.step,
-          ) ∣₁);
+      reached = reached_after c.args.self.now.state c.push_on.new.state (λ h. Push c.args.a c.push_on.result.verdict c.push_on.result.number c.push_on.result.aside_dropped ∷ h)
+          (λ h st. push_keeps c.args.self.now.state c.push_on.new.state h c.args.a c.push_on.result st c.push_on.ensures c.requires.few
+          (record { pusher = omega arith; k = omega arith; stamp = c.requires.stamp; seq = omega arith; rtp = omega arith; pt = omega arith; payload = omega arith }) c.requires.pusher) c.args.self.now.reached;
     }
 
 pub returns-clause-stands : goal.returns-clause-stands
-returns-clause-stands c =
-    λ h st. push_keeps c.args.self.now.state c.push_on.new.state h c.args.a c.push_on.result.verdict c.push_on.result.number st c.requires.few (record { stamp = c.requires.stamp; seq = omega arith; rtp = omega arith; original = c.requires.origin }) c.requires.pusher c.push_on.ensures.number c.push_on.ensures.step
+returns-clause-stands c = λ h st.
+    push_keeps c.args.self.now.state c.push_on.new.state h c.args.a c.push_on.result st c.push_on.ensures c.requires.few
+    (record { pusher = omega arith; k = omega arith; stamp = c.requires.stamp; seq = omega arith; rtp = omega arith; pt = omega arith; payload = omega arith }) c.requires.pusher
 
-pub returns-clause-verdict : goal.returns-clause-verdict
-returns-clause-verdict c = λ h st other. push_verdict c.args.self.now.state c.push_on.new.state h c.args.a c.push_on.result.verdict st c.requires.pusher c.push_on.ensures.step other
+pub returns-clause-value : goal.returns-clause-value
+returns-clause-value c = λ h st. push_value c.args.self.now.state c.push_on.new.state h c.args.a c.push_on.result st c.push_on.ensures

@@ -1,0 +1,190 @@
+-- The reply to a turn by a state is the one by the history.
+use Rattle.std.proofs.Common.{ℕ, zero, suc, ◌≡◌, ◌+◌, ◌-◌, ◌≤◌, Bool, true, false, ◌||◌, ◌&&◌, not, refl, sym, ap, ◌∙◌, List, Option, None, Some, arith}
+use Rattle.std.specs.Prelude.{◌==◌, is_some, unwrap_or, nat_lt, nat_le, if◌then◌else◌}
+use Rattle.std.specs.FinMap as map
+use Rattle.std.proofs.lemmas.Grind.{common_steps}
+use Rattle.jitter_model.specs.declared.Settings.{Settings}
+use Rattle.jitter_model.specs.declared.Held.{Held}
+use Rattle.jitter_model.specs.declared.Mark.{Mark}
+use Rattle.jitter_model.specs.declared.Turn.{Turn}
+use Rattle.jitter_model.specs.declared.Turn.TheVariants.{Lost, End, Idle, Flushing}
+use Rattle.jitter_model.specs.History.{History, is_flushing, latency, all_below}
+use Rattle.jitter_model.specs.Accepted.{least, accepted}
+use Rattle.jitter_model.specs.Covered.{next, is_out}
+use Rattle.jitter_model.specs.Verdicts.{is_late}
+use Rattle.jitter_model.specs.Times.{marks, held, expected}
+use Rattle.jitter_model.specs.Requests.{lesser, later}
+use Rattle.jitter_model.specs.Turns.{Sight, low, deadline, wanted, asked_from, request_wake_from, least_from, may_start, may_give, is_lost, ends_loss, loss_end, is_done, output_wake, packet_turn, lost_turn, turn_by, is_fast, sight, turn}
+use Rattle.jitter_model.specs.Runs.{Run}
+use Rattle.jitter_model.proofs.Chain.{least_from_above}
+use Rattle.jitter_core.specs.declared.state.State.{State}
+use Rattle.jitter_core.specs.Parts.{Placed, Marked}
+use Rattle.jitter_core.specs.Stands.{StandsFor}
+use Rattle.jitter_core.specs.Turning.{state_sight, output_turn, plain_turn, is_fast_by}
+use Rattle.jitter_core.proofs.Judging.{placed_now, marked_now, held_has}
+use Rattle.jitter_core.proofs.Kept.{expected-kept, kept_all}
+use Rattle.jitter_core.proofs.Passing.{all_ended_is}
+
+-- ---- without requests
+
+no_wanted : (s : Settings) (v : Sight) (n : ℕ) → s.rtx ≡ false → wanted s v n ≡ None
+no_wanted s v n e = rw e refl
+
+no_asked : (s : Settings) (v : Sight) (n count : ℕ) → s.rtx ≡ false → asked_from s v n count ≡ None
+no_asked s v n zero e = refl
+no_asked s v n (suc count) e = rw (no_wanted s v n e, no_asked s v (n + 1) count e) refl
+
+no_wake : (s : Settings) (v : Sight) (n count : ℕ) → s.rtx ≡ false → request_wake_from s v n count ≡ None
+no_wake s v n zero e = refl
+no_wake s v n (suc count) e = rw (no_wanted s v n e, no_wake s v (n + 1) count e) refl
+
+pub plain_is : (s : Settings) (v : Sight) (o : Option ℕ) → s.rtx ≡ false → turn_by s v o ≡ plain_turn v o
+plain_is s v o e = rw (no_asked s v (low v o) (v.top + 2 - low v o) e, no_wake s v (low v o) (v.top + 2 - low v o) e) refl
+
+-- ---- sights that agree
+
+least_from-same : (P Q : ℕ → Bool) (n count : ℕ) → ((m : ℕ) → n ≤ m → P m ≡ Q m) → least_from P n count ≡ least_from Q n count
+least_from-same P Q n zero same = refl
+least_from-same P Q n (suc count) same =
+    ap (λ (b : Bool). if b then n else least_from P (n + 1) count) (same n (omega arith))
+    ∙ ap (λ (m : ℕ). if Q n then n else m) (least_from-same P Q (n + 1) count (λ m le. same m (omega arith)))
+
+-- two sights that agree from the lowest number on
+pub record Agree (v w : Sight) (o : Option ℕ) : Type 0 where
+  pub time : v.time ≡ w.time
+  pub ended : v.ended ≡ w.ended
+  pub told : v.told ≡ w.told
+  pub latency : v.latency ≡ w.latency
+  pub top : v.top ≡ w.top
+  pub start : v.start ≡ w.start
+  pub low_is : low v o ≡ low w o
+  pub fast_is : o ≡ None → v.fast ≡ w.fast
+  pub among_is : (m : ℕ) → low w o ≤ m → v.among m ≡ w.among m
+  pub held_is : v.held (low w o) ≡ w.held (low w o)
+  pub expected_is : (m : ℕ) → low w o ≤ m → expected v.marks m ≡ expected w.marks m
+
+deadline_same : (v w : Sight) (o : Option ℕ) (m : ℕ) → Agree v w o → low w o ≤ m → deadline v m ≡ deadline w m
+deadline_same v w o m a le = ap (λ (x : ℕ). x + v.latency) (a.expected_is m le) ∙ ap (λ (x : ℕ). expected w.marks m + x) a.latency
+
+start_same : (v w : Sight) (x : Option ℕ) → v.time ≡ w.time → v.fast ≡ w.fast → v.ended ≡ w.ended → may_start v x ≡ may_start w x
+start_same v w None t f e = refl
+start_same v w (Some x) t f e = rw (t, f, e) refl
+
+give_same : (v w : Sight) (o : Option ℕ) → Agree v w o → may_give v o ≡ may_give w o
+give_same v w None a =
+    ap (λ (x : Option ℕ). may_start v x) a.start
+    ∙ start_same v w w.start a.time (a.fast_is refl) a.ended
+give_same v w (Some n) a = a.among_is n (omega arith)
+
+lost_same : (v w : Sight) (o : Option ℕ) → Agree v w o → is_lost v o ≡ is_lost w o
+lost_same v w None a = refl
+lost_same v w (Some n) a =
+    ap (λ (t : ℕ). nat_lt n t && nat_le (deadline v n) v.time) a.top
+    ∙ ap (λ (d : ℕ). nat_lt n w.top && nat_le d v.time) (deadline_same v w (Some n) n a (omega arith))
+    ∙ ap (λ (t : ℕ). nat_lt n w.top && nat_le (deadline w n) t) a.time
+
+end_same : (v w : Sight) (o : Option ℕ) → Agree v w o → loss_end v (low w o) ≡ loss_end w (low w o)
+end_same v w o a =
+    ap (λ (t : ℕ). least_from (ends_loss v) (low w o + 1) (t - (low w o + 1))) a.top
+    ∙ least_from-same (ends_loss v) (ends_loss w) (low w o + 1) (w.top - (low w o + 1)) (λ m le.
+    ap (λ (b : Bool). b || nat_lt v.time (deadline v m)) (a.among_is m (omega arith))
+    ∙ ap (λ (d : ℕ). w.among m || nat_lt v.time d) (deadline_same v w o m a (omega arith))
+    ∙ ap (λ (t : ℕ). w.among m || nat_lt t (deadline w m)) a.time)
+
+loss_same : (v w : Sight) (o : Option ℕ) → Agree v w o → lost_turn v.marks (low w o) (loss_end v (low w o)) ≡ lost_turn w.marks (low w o) (loss_end w (low w o))
+loss_same v w o a =
+    let n : ℕ = low w o in
+    let above : low w o + 1 ≤ loss_end w (low w o) = least_from_above (ends_loss w) (low w o + 1) (w.top - (low w o + 1)) in
+    ap (λ (m : ℕ). lost_turn v.marks (low w o) m) (end_same v w o a)
+    ∙ ap (λ (x : ℕ). Lost (low w o) (loss_end w (low w o) - low w o) x (expected v.marks (loss_end w (low w o)) - x)) (a.expected_is (low w o) (omega arith))
+    ∙ ap (λ (y : ℕ). Lost (low w o) (loss_end w (low w o) - low w o) (expected w.marks (low w o)) (y - expected w.marks (low w o))) (a.expected_is (loss_end w (low w o)) (omega arith))
+
+done_same : (v w : Sight) (o : Option ℕ) → Agree v w o → is_done v o ≡ is_done w o
+done_same v w None a = ap (λ (x : Option ℕ). not (is_some x)) a.start
+done_same v w (Some n) a = ap (λ (t : ℕ). nat_lt t n) a.top
+
+wake_same : (v w : Sight) (o : Option ℕ) → Agree v w o → output_wake v o ≡ output_wake w o
+wake_same v w None a = a.start
+wake_same v w (Some n) a =
+    ap (λ (t : ℕ). if nat_lt n t then Some (deadline v n) else None) a.top
+    ∙ ap (λ (d : ℕ). if nat_lt n w.top then Some d else None) (deadline_same v w (Some n) n a (omega arith))
+
+-- the reply by its parts
+abbrev reply : Bool → Turn → Bool → Turn → Bool → Bool → Bool → Turn → Turn
+reply give packet lost loss ended done told idle = if give then packet else if lost then loss else if ended && done && not told then End else idle
+
+pub agree_same : (v w : Sight) (o wake : Option ℕ) → Agree v w o → output_turn v o wake ≡ output_turn w o wake
+agree_same v w o wake a =
+    ap (λ (n : ℕ). reply (may_give v o) (packet_turn n (v.held n)) (is_lost v o) (lost_turn v.marks n (loss_end v n)) v.ended (is_done v o) v.told (Idle (lesser (output_wake v o) wake))) a.low_is
+    ∙ ap (λ (b : Bool). reply b (packet_turn (low w o) (v.held (low w o))) (is_lost v o) (lost_turn v.marks (low w o) (loss_end v (low w o))) v.ended (is_done v o) v.told (Idle (lesser (output_wake v o) wake))) (give_same v w o a)
+    ∙ ap (λ (x : Option Held). reply (may_give w o) (packet_turn (low w o) x) (is_lost v o) (lost_turn v.marks (low w o) (loss_end v (low w o))) v.ended (is_done v o) v.told (Idle (lesser (output_wake v o) wake))) a.held_is
+    ∙ ap (λ (b : Bool). reply (may_give w o) (packet_turn (low w o) (w.held (low w o))) b (lost_turn v.marks (low w o) (loss_end v (low w o))) v.ended (is_done v o) v.told (Idle (lesser (output_wake v o) wake))) (lost_same v w o a)
+    ∙ ap (λ (t : Turn). reply (may_give w o) (packet_turn (low w o) (w.held (low w o))) (is_lost w o) t v.ended (is_done v o) v.told (Idle (lesser (output_wake v o) wake))) (loss_same v w o a)
+    ∙ ap (λ (b : Bool). reply (may_give w o) (packet_turn (low w o) (w.held (low w o))) (is_lost w o) (lost_turn w.marks (low w o) (loss_end w (low w o))) b (is_done v o) v.told (Idle (lesser (output_wake v o) wake))) a.ended
+    ∙ ap (λ (b : Bool). reply (may_give w o) (packet_turn (low w o) (w.held (low w o))) (is_lost w o) (lost_turn w.marks (low w o) (loss_end w (low w o))) w.ended b v.told (Idle (lesser (output_wake v o) wake))) (done_same v w o a)
+    ∙ ap (λ (b : Bool). reply (may_give w o) (packet_turn (low w o) (w.held (low w o))) (is_lost w o) (lost_turn w.marks (low w o) (loss_end w (low w o))) w.ended (is_done w o) b (Idle (lesser (output_wake v o) wake))) a.told
+    ∙ ap (λ (x : Option ℕ). reply (may_give w o) (packet_turn (low w o) (w.held (low w o))) (is_lost w o) (lost_turn w.marks (low w o) (loss_end w (low w o))) w.ended (is_done w o) w.told (Idle (lesser x wake))) (wake_same v w o a)
+
+-- ---- a state and its history
+
+late_not : (o : Option ℕ) (v : Sight) (m : ℕ) → low v o ≤ m → is_late o m ≡ false
+late_not None v m le = refl
+late_not (Some n) v m le = grind (arith, common_steps)
+
+below_same : (P Q : ℕ → Bool) (n : ℕ) → ((p : ℕ) → P p ≡ Q p) → all_below P n ≡ all_below Q n
+below_same P Q zero same = refl
+below_same P Q (suc n) same = ap (λ (b : Bool). b && P n) (below_same P Q n same) ∙ ap (λ (b : Bool). all_below Q n && b) (same n)
+
+fast_is : (s : State) (h : History) (count : ℕ) → Run s.settings h → Placed s (accepted h) (next h) (is_out h) → next h ≡ None → is_fast_by s count ≡ is_fast count (accepted h)
+fast_is s h count r p e =
+    ap (λ (b : Bool). not (count == 0) && b)
+    (below_same _ _ count (λ i. ap (λ (l : Option ℕ). is_some (map.get s.held (unwrap_or l 0 + i))) p.least_is
+    ∙ held_has s h (unwrap_or (least (accepted h)) 0 + i) r p (ap (λ (o : Option ℕ). is_late o (unwrap_or (least (accepted h)) 0 + i)) e)))
+
+low_is : (s : State) (h : History) (o : Option ℕ) → Placed s (accepted h) (next h) (is_out h) → low (state_sight s) o ≡ low (sight s.settings h) o
+low_is s h None p = ap (λ (l : Option ℕ). unwrap_or l 0) p.least_is
+low_is s h (Some n) p = refl
+
+expected_is : (s : State) (h : History) (o : Option ℕ) (m : ℕ) → Marked s (accepted h) o → low (sight s.settings h) o ≤ m → expected s.heights m ≡ expected (marks s.settings (accepted h)) m
+expected_is s h None m k le = ap (λ (ms : List Mark). expected ms m) (k.marks_are ∙ kept_all (marks s.settings (accepted h)))
+expected_is s h (Some n) m k le = ap (λ (ms : List Mark). expected ms m) k.marks_are ∙ expected-kept n m (marks s.settings (accepted h)) le
+
+held_now : (s : State) (h : History) (n : ℕ) → is_flushing h ≡ false → Placed s (accepted h) (next h) (is_out h) → map.get s.held n ≡ held s.settings h n
+held_now s h n e p = p.held_are n ∙ rw e refl
+
+agrees : (s : State) (h : History) → StandsFor s h → is_flushing h ≡ false → Agree (state_sight s) (sight s.settings h) (next h)
+agrees s h st e =
+    let p : Placed s (accepted h) (next h) (is_out h) = placed_now s h e st.order.placed in
+    let m : Marked s (accepted h) (next h) = marked_now s h e st.times.marked in
+    record {
+      time = st.order.time_is;
+      ended = all_ended_is s h st.order;
+      told = st.order.told_is;
+      latency = st.order.latency_is;
+      top = ap (λ (t : Option ℕ). unwrap_or t 0) p.top_is;
+      start = ap (λ (x : ℕ). later x s.span.first_pts) st.order.latency_is ∙ ap (λ (f : Option ℕ). later (latency s.settings h) f) m.first_is;
+      low_is = low_is s h (next h) p;
+      fast_is = λ none. fast_is s h s.settings.faststart st.run p none;
+      among_is = λ q le. held_has s h q st.run p (late_not (next h) (sight s.settings h) q le);
+      held_is = held_now s h _ e p;
+      expected_is = λ q le. expected_is s h (next h) q m le;
+    }
+
+turn_now : (s : State) (h : History) → StandsFor s h → is_flushing h ≡ false → plain_turn (state_sight s) s.span.next ≡ plain_turn (sight s.settings h) (next h)
+turn_now s h st e =
+    let p : Placed s (accepted h) (next h) (is_out h) = placed_now s h e st.order.placed in
+    ap (λ (o : Option ℕ). plain_turn (state_sight s) o) p.next_is
+    ∙ ap (λ (b : Bool). if b then Flushing else output_turn (state_sight s) (next h) None) st.order.flushing_is
+    ∙ ap (λ (t : Turn). if is_flushing h then Flushing else t) (agree_same (state_sight s) (sight s.settings h) (next h) None (agrees s h st e))
+
+pub turn_is : (s : State) (h : History) → StandsFor s h → plain_turn (state_sight s) s.span.next ≡ turn s.settings h
+turn_is s h st =
+    elim (is_flushing h) as (λ b. is_flushing h ≡ b → plain_turn (state_sight s) s.span.next ≡ plain_turn (sight s.settings h) (next h)) [
+      | true ↦ λ e. rw (st.order.flushing_is, e) refl
+      | false ↦ λ e. turn_now s h st e
+    ] refl
+    ∙ sym (plain_is s.settings (sight s.settings h) (next h) st.built.rtx)
+
+-- while a flush runs the answer is Flushing
+pub flushing_turn : (s : Settings) (h : History) → is_flushing h ≡ true → turn s h ≡ Flushing
+flushing_turn s h e = rw e refl

@@ -1,0 +1,119 @@
+-- What holds of a state that stands for some history.
+use Rattle.std.proofs.Common.{ℕ, zero, suc, ◌≡◌, ◌<◌, refl, List, [], ◌∷◌, arith, length}
+use Rattle.std.proofs.Props.{props}
+use Rattle.std.proofs.Math.Logic.{∥∥₁_elim}
+use Rattle.std.specs.FinMap as map
+use Rattle.std.specs.Ordering.{nat_cmp}
+use Rattle.std.specs.Prelude.{slice_index_or, None, false}
+use Rattle.skew_estimator.specs.Estimator.{StandsFor as IsSkewOf}
+use Rattle.jitter_model.specs.declared.Arrival.{Arrival}
+use Rattle.jitter_model.specs.History.{History}
+use Rattle.jitter_model.specs.Accepted.{aside}
+use Rattle.jitter_model.specs.Runs.{IsValid}
+use Rattle.jitter_model.proofs.Numbered.{IsRun, IsAsideRun, aside_run, run_or_none, valid_of, latency_most}
+use Rattle.jitter_core.specs.declared.state.State.{State}
+use Rattle.jitter_core.specs.Asides.{in_order}
+use Rattle.jitter_core.specs.Steps.{IsBounded, run_of}
+use Rattle.jitter_core.specs.Stands.{live, live_next, live_out, live_aside, IsBuilt, StandsFor, IsReached}
+use Rattle.jitter_core.proofs.Asides.{run_is, in_order_is}
+use Rattle.jitter_core.proofs.Bounds.{segment, segment_bounded}
+
+pub bounded : (s : State) (h : History) → StandsFor s h → IsBounded s
+bounded s h st =
+    segment_bounded s (live h) (live_next h) (live_out h) (omega (arith, st.order.latency_is, latency_most s.settings h st.run)) st.order.placed st.skew.clocked st.times.marked (segment s.settings h st.run)
+
+-- the packets put aside are a run, and stand in order
+pub record HasRun (s : State) : Type 0 where
+  pub list : s.aside ≡ in_order (run_of s)
+  pub run : IsAsideRun (run_of s)
+
+pub has_run : (s : State) (h : History) → StandsFor s h → HasRun s
+has_run s h st =
+    record {
+      list = in_order_is s.aside (live_aside h) st.order.aside_is;
+      run = rw (run_is s.aside (live_aside h) st.order.aside_is) (run_or_none _ (aside h) (aside_run s.settings h st.run));
+    }
+
+pub valid : (s : State) (h : History) → StandsFor s h → s.settings.pushers < 512
+valid s h st = (valid_of s.settings h st.run).pushers_to
+
+run_prop : (run : List Arrival) → IsProp (IsRun run)
+run_prop [] = hlevel props
+run_prop (a ∷ []) = hlevel props
+run_prop (a ∷ b ∷ run) = hlevel (props, run_prop (b ∷ run))
+
+-- each holds of a state that stands for some history
+pub reached_bounded : (s : State) → IsReached s → IsBounded s
+reached_bounded s r = ∥∥₁_elim r (hlevel props) (λ x. bounded s x.0 x.1)
+
+pub reached_list : (s : State) → IsReached s → s.aside ≡ in_order (run_of s)
+reached_list s r = ∥∥₁_elim r (hlevel props) (λ x. (has_run s x.0 x.1).list)
+
+pub reached_run : (s : State) → IsReached s → IsAsideRun (run_of s)
+reached_run s r = ∥∥₁_elim r (hlevel (props, run_prop)) (λ x. (has_run s x.0 x.1).run)
+
+pub reached_pushers : (s : State) → IsReached s → s.settings.pushers < 512
+reached_pushers s r = ∥∥₁_elim r (hlevel props) (λ x. valid s x.0 x.1)
+
+pub reached_plain : (s : State) → IsReached s → s.settings.rtx ≡ false
+reached_plain s r = ∥∥₁_elim r (hlevel props) (λ x. x.1.built.rtx)
+
+-- a call that keeps what a state stands for, with an entry added, keeps that it stands for some history
+pub reached_after : (old new : State) (after : History → History) → ((h : History) → StandsFor old h → StandsFor new (after h)) → IsReached old → IsReached new
+reached_after old new after keeps r = ∥∥₁_elim r (hlevel props) (λ x. ∣ (after x.0, keeps x.0 x.1) ∣₁)
+
+-- ---- a new state
+
+-- no pusher of nine ended
+pub none_ended : (p : ℕ) → slice_index_or (false ∷ false ∷ false ∷ false ∷ false ∷ false ∷ false ∷ false ∷ false ∷ []) p false ≡ false
+none_ended zero = refl
+none_ended (suc zero) = refl
+none_ended (suc (suc zero)) = refl
+none_ended (suc (suc (suc zero))) = refl
+none_ended (suc (suc (suc (suc zero)))) = refl
+none_ended (suc (suc (suc (suc (suc zero))))) = refl
+none_ended (suc (suc (suc (suc (suc (suc zero)))))) = refl
+none_ended (suc (suc (suc (suc (suc (suc (suc zero))))))) = refl
+none_ended (suc (suc (suc (suc (suc (suc (suc (suc zero)))))))) = refl
+none_ended (suc (suc (suc (suc (suc (suc (suc (suc (suc p))))))))) = refl
+
+-- nothing was called yet
+pub record IsNew (s : State) : Type 0 where
+  pub pushes : s.progress.pushes ≡ 0
+  pub time : s.progress.time ≡ 0
+  pub latency : s.progress.latency ≡ s.settings.latency
+  pub flushing : s.progress.flushing ≡ false
+  pub ended_long : length s.progress.ended ≡ 9
+  pub ended : (p : ℕ) → slice_index_or s.progress.ended p false ≡ false
+  pub end_told : s.progress.end_told ≡ false
+  pub next : s.span.next ≡ None
+  pub top : s.span.top ≡ None
+  pub least : s.span.least ≡ None
+  pub first_pts : s.span.first_pts ≡ None
+  pub count : s.span.held ≡ 0
+  pub held : s.held ≡ map.empty
+  pub aside : s.aside ≡ []
+  pub skew_rate : s.skew.rate ≡ s.settings.rate
+  pub skew_mode : s.skew.mode ≡ s.settings.mode
+  pub skew : IsSkewOf s.skew []
+  pub heights : s.heights ≡ []
+
+pub new_stands : (s : State) → IsValid s.settings → IsBuilt s.settings → IsNew s → StandsFor s []
+new_stands s v b e =
+    record {
+      built = b;
+      run = v;
+      order = record {
+        pushes_are = e.pushes;
+        time_is = e.time;
+        latency_is = e.latency;
+        flushing_is = e.flushing;
+        ended_long = e.ended_long;
+        ended_are = e.ended;
+        told_is = e.end_told;
+        placed = record { next_is = e.next; top_is = e.top; least_is = e.least; held_are = λ n. rw e.held (map.get-empty nat_cmp n); count_is = e.count };
+        aside_is = e.aside;
+      };
+      skew = record { clocked = record { rate_is = e.skew_rate; mode_is = e.skew_mode; stands = e.skew } };
+      times = record { marked = record { first_is = e.first_pts; marks_are = e.heights } };
+    }

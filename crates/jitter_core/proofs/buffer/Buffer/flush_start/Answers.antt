@@ -1,0 +1,21 @@
+use Rattle.std.proofs.Common.{◌∷◌, ◌∙◌}
+use Rattle.jitter_model.specs.declared.Entry.TheVariants.{FlushStart}
+use Rattle.jitter_core.proofs.Passing.{flushed_keeps, flush_count_is}
+use Rattle.jitter_core.proofs.Reached.{reached_after, reached_bounded}
+use Rattle.jitter_core.proofs.buffer.Buffer.flush_start.Goals as goal
+
+pub start_flush-requires : goal.start_flush-requires
+start_flush-requires c = reached_bounded c.args.self.now.state c.args.self.now.reached
+
+pub invariant_of-self : goal.invariant_of-self
+invariant_of-self c =
+    record {
+      reached = reached_after c.args.self.now.state c.start_flush.new.state (λ h. FlushStart c.start_flush.result ∷ h)
+          (λ h st. flushed_keeps c.args.self.now.state c.start_flush.new.state h c.start_flush.result st c.start_flush.ensures.dropped c.start_flush.ensures.does) c.args.self.now.reached;
+    }
+
+pub returns-clause-stands : goal.returns-clause-stands
+returns-clause-stands c = λ h st. flushed_keeps c.args.self.now.state c.start_flush.new.state h c.start_flush.result st c.start_flush.ensures.dropped c.start_flush.ensures.does
+
+pub returns-clause-value : goal.returns-clause-value
+returns-clause-value c = λ h st. c.start_flush.ensures.dropped ∙ flush_count_is c.args.self.now.state h st.order

@@ -1,0 +1,173 @@
+//! The heights that a buffer keeps, and the expected times by them.
+
+ghost use Rattle.std.specs.Prelude.{◌≡◌, ◌<◌, ◌≤◌, ◌^◌, ◌+◌, ◌*◌, Some, None, pos, negsuc, ◌+ℤ◌, ◌-ℤ◌, ◌*ℤ◌, ◌≤ℤ◌, int_div, length, [], IfOk, List};
+ghost use Rattle.std.specs.VecDeque.{deque_capacity};
+ghost use Rattle.jitter_model.specs.Times.{expected, between};
+ghost use Rattle.rtp_units.specs.Numbers.{hold};
+ghost use Rattle.jitter_core.specs.Marks.{kept, from_mark, is_next_mark, AreMarksBounded};
+
+use jitter_model::Mark;
+use rtp_units::{OutOfMemory, held_to_time};
+use std::alloc::Global;
+use std::collections::VecDeque;
+use std::marker::Model;
+
+// One more than the numbers of a window, which is the most heights that are kept.
+const ROOM: usize = 8_193;
+
+/// Heights, the greatest first, each with its presentation time. Only `new` takes memory.
+#[derive(Drop)]
+pub struct Heights {
+    marks: VecDeque<Mark>,
+}
+
+impl Model for Heights {
+    ghost use Rattle.std.specs.Prelude.{List, ◌≤◌};
+    ghost use Rattle.std.specs.VecDeque.{deque_capacity};
+    ghost use Rattle.jitter_model.specs.declared.Mark.{Mark};
+
+    ghost Value = { List Mark };
+
+    ghost view = { λ h. h.marks.items };
+
+    ghost invariant = { λ h. 8193 ≤ deque_capacity h.marks };
+}
+
+/// How much later the second time is.
+fn rise_of(from: u64, to: u64) -> i128
+    ensures { result ≡ pos to -ℤ pos from }
+{
+    i128::from(to) - i128::from(from)
+}
+
+/// A part of a difference of times, cut towards zero.
+fn part_of(rise: i128, part: u64, whole: u64) -> i128
+    requires low { negsuc (2 ^ 63) ≤ℤ rise }
+    requires high { rise ≤ℤ pos (2 ^ 63) }
+    requires part { part ≤ 2 ^ 62 }
+    requires whole { 0 < whole }
+    ensures value { result ≡ int_div (rise *ℤ pos part) (pos whole) }
+    ensures above { negsuc (2 ^ 126) ≤ℤ result }
+    ensures below { result ≤ℤ pos (2 ^ 126) }
+{
+    rise * i128::from(part) / i128::from(whole)
+}
+
+/// A time moved by a difference, held to its range.
+fn moved_by(time: u64, by: i128) -> u64
+    requires low { negsuc (2 ^ 126) ≤ℤ by }
+    requires high { by ≤ℤ pos (2 ^ 126) }
+    ensures value { result ≡ hold (pos time +ℤ by) }
+    ensures small { result < 2 ^ 63 }
+{
+    held_to_time(i128::from(time) + by)
+}
+
+/// The time at `n` on the line from `a` to `b`.
+fn time_between(a: &Mark, b: &Mark, n: u64) -> u64
+    requires from { a.now.number ≤ n }
+    requires to { n < b.now.number }
+    requires number { b.now.number ≤ 2 ^ 62 }
+    requires a { a.now.pts < 2 ^ 63 }
+    requires b { b.now.pts < 2 ^ 63 }
+    ensures value { result ≡ between a.now b.now n }
+    ensures small { result < 2 ^ 63 }
+{
+    let rise = rise_of(a.pts, b.pts);
+    let part = part_of(rise, n - a.number, b.number - a.number);
+    moved_by(a.pts, part)
+}
+
+/// The expected time of a number by these heights.
+fn expected_by(marks: &VecDeque<Mark>, n: u64) -> u64
+    requires { AreMarksBounded marks.now.items }
+    ensures value { result ≡ expected marks.now.items n }
+    ensures small { result < 2 ^ 63 }
+{
+    let mut above: Option<Mark> = None;
+    for i in 0..marks.len() {
+        let mark = marks[i];
+        if mark.number <= n {
+            return match above {
+                None => mark.pts,
+                Some(above) => time_between(&mark, &above, n),
+            };
+        }
+        above = Some(mark);
+    }
+    match above {
+        None => 0,
+        Some(above) => above.pts,
+    }
+}
+
+/// Drops the heights that no number from `next` on needs.
+fn prune_to(marks: &mut VecDeque<Mark>, next: u64)
+    ensures items { marks.new.items ≡ kept (Some next) marks.old.items }
+    ensures capacity { deque_capacity marks.new ≡ deque_capacity marks.old }
+{
+    for i in 0..marks.len() {
+        if marks[i].number <= next {
+            marks.truncate(i + 1);
+            return;
+        }
+    }
+}
+
+impl Heights {
+    /// No heights.
+    pub fn new(alloc: Global) -> Result<Heights, OutOfMemory>
+        ensures { IfOk result (λ h. h ≡ []) }
+    {
+        Ok(Heights {
+            marks: VecDeque::with_capacity(alloc, ROOM)?,
+        })
+    }
+
+    /// Puts a height above all others in, and drops those that no number from `next` on needs.
+    pub fn add(&mut self, next: Option<u64>, mark: Mark)
+        requires { length self.old ≤ 8192 }
+        ensures { self.new ≡ from_mark next mark self.old }
+    {
+        self.marks.push_front_reserved(mark);
+        if let Some(next) = next {
+            if mark.number <= next {
+                self.marks.truncate(1);
+            }
+        }
+    }
+
+    /// Whether a number is one above the latest height.
+    pub fn is_next(&self, number: u64) -> bool
+        requires { AreMarksBounded self.now }
+        ensures { result ≡ is_next_mark self.now number }
+    {
+        match self.marks.front() {
+            None => false,
+            Some(mark) => number == mark.number + 1,
+        }
+    }
+
+    /// The expected time of a number.
+    pub fn expected(&self, n: u64) -> u64
+        requires { AreMarksBounded self.now }
+        ensures value { result ≡ expected self.now n }
+        ensures small { result < 2 ^ 63 }
+    {
+        expected_by(&self.marks, n)
+    }
+
+    /// Drops the heights that no number from `next` on needs.
+    pub fn prune(&mut self, next: u64)
+        ensures { self.new ≡ kept (Some next) self.old }
+    {
+        prune_to(&mut self.marks, next);
+    }
+
+    /// Drops all.
+    pub fn clear(&mut self)
+        ensures { self.new ≡ [] }
+    {
+        self.marks.clear();
+    }
+}

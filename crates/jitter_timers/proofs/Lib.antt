@@ -1,0 +1,5 @@
+pub mod Cost
+pub mod Holes
+pub mod Moves
+pub mod TestLemmas
+pub mod Times

@@ -1,0 +1,159 @@
+//! The text of a dump's lines.
+ghost use Rattle.std.specs.Prelude.{◌≡◌, IfOk, Some};
+ghost use Rattle.log_text.specs.Dumped.{bad_text, dump_text, header_text, packet_text, ports_text, sizes_text};
+
+use crate::words::Spelled;
+use rtp_units::{Blob, OutOfMemory};
+use std::alloc::Global;
+use std::fmt;
+use timeline::{BadPacket, DumpLine, Ports, RtpFacts};
+
+/// The bytes of a dump's line, its newline included.
+pub fn dump_line(alloc: Global, line: &DumpLine) -> Result<Blob, OutOfMemory>
+    ensures { IfOk result (λ text. text ≡ dump_text line.now) }
+{
+    let text = Dumped(line).to_string(alloc)?;
+    Ok(Blob::from_vec(text.into_bytes()))
+}
+
+#[derive(Clone, Copy)]
+struct Dumped<'a>(&'a DumpLine);
+
+impl fmt::Display for Dumped<'_> {
+    ghost output = { λ line. Some (dump_text line.0.now) };
+
+    fn fmt<W: fmt::Write>(&self, f: &mut fmt::Formatter<W>) -> fmt::Result {
+        match self.0 {
+            DumpLine::Rtp {
+                record,
+                time,
+                ports,
+                facts,
+            } => {
+                let packet = PacketWords {
+                    ports: *ports,
+                    facts: *facts,
+                };
+                write!(f, "{record} {time} rtp {packet}\n")
+            }
+            DumpLine::Rtcp {
+                record,
+                time,
+                ports,
+                types,
+            } => {
+                let ports = PortWords(*ports);
+                write!(f, "{record} {time} rtcp {ports} {types}\n")
+            }
+            DumpLine::BadRtcp {
+                record,
+                time,
+                ports,
+                bad,
+            } => {
+                let ports = PortWords(*ports);
+                let bad = BadWords(*bad);
+                write!(f, "{record} {time} bad {ports} rtcp {bad}\n")
+            }
+            DumpLine::Bad {
+                record,
+                time,
+                ports,
+                word,
+            } => {
+                let ports = PortWords(*ports);
+                let word = Spelled(*word);
+                write!(f, "{record} {time} bad {ports} rtp {word}\n")
+            }
+            DumpLine::Skip {
+                record,
+                time,
+                reason,
+            } => {
+                let reason = Spelled(*reason);
+                write!(f, "{record} {time} skip {reason}\n")
+            }
+            DumpLine::Done { records } => write!(f, "done {records}\n"),
+        }
+    }
+}
+
+// Why a packet of a compound is bad, and its offset.
+#[derive(Drop)]
+struct BadWords(BadPacket);
+
+impl fmt::Display for BadWords {
+    ghost output = { λ bad. Some (bad_text bad.0) };
+
+    fn fmt<W: fmt::Write>(&self, f: &mut fmt::Formatter<W>) -> fmt::Result {
+        let word = Spelled(self.0.word);
+        let offset = self.0.offset;
+        write!(f, "{word} {offset}")
+    }
+}
+
+#[derive(Drop)]
+struct PacketWords {
+    ports: Ports,
+    facts: RtpFacts,
+}
+
+impl fmt::Display for PacketWords {
+    ghost output = { λ packet. Some (packet_text packet.ports packet.facts) };
+
+    fn fmt<W: fmt::Write>(&self, f: &mut fmt::Formatter<W>) -> fmt::Result {
+        let ports = PortWords(self.ports);
+        let header = Header(self.facts);
+        let sizes = Sizes(self.facts);
+        write!(f, "{ports} {header} {sizes}")
+    }
+}
+
+#[derive(Drop)]
+struct PortWords(Ports);
+
+impl fmt::Display for PortWords {
+    ghost output = { λ ports. Some (ports_text ports.0) };
+
+    fn fmt<W: fmt::Write>(&self, f: &mut fmt::Formatter<W>) -> fmt::Result {
+        let from = self.0.from;
+        let to = self.0.to;
+        write!(f, "{from} {to}")
+    }
+}
+
+// Payload type, sequence number, timestamp, SSRC.
+#[derive(Drop)]
+struct Header(RtpFacts);
+
+impl fmt::Display for Header {
+    ghost output = { λ facts. Some (header_text facts.0) };
+
+    fn fmt<W: fmt::Write>(&self, f: &mut fmt::Formatter<W>) -> fmt::Result {
+        let pt = self.0.pt;
+        let seq = self.0.seq;
+        let timestamp = self.0.timestamp;
+        let ssrc = self.0.ssrc;
+        write!(f, "{pt} {seq} {timestamp} {ssrc:08x}")
+    }
+}
+
+// Marker, CSRCs, words of the extension, padding, payload length.
+#[derive(Drop)]
+struct Sizes(RtpFacts);
+
+impl fmt::Display for Sizes {
+    ghost output = { λ facts. Some (sizes_text facts.0) };
+
+    fn fmt<W: fmt::Write>(&self, f: &mut fmt::Formatter<W>) -> fmt::Result {
+        let csrcs = self.0.csrcs;
+        let words = self.0.words;
+        let padding = self.0.padding;
+        let len = self.0.len;
+        if self.0.marker {
+            write!(f, "1 {csrcs} {words} {padding} {len}")
+        } else {
+            write!(f, "0 {csrcs} {words} {padding} {len}")
+        }
+    }
+}

@@ -1,0 +1,9 @@
+pub mod Heads
+pub mod Runs
+pub mod Chunks
+pub mod Nacking
+pub mod Each
+pub mod ReadBack
+pub mod Whole
+pub mod Grammatical
+pub mod Texts

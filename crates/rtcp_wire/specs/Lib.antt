@@ -1,0 +1,10 @@
+pub mod Bodies
+pub mod Sdes
+pub mod Compound
+pub mod Answers
+pub mod Heads
+pub mod Steps
+pub mod Nacking
+pub mod Written
+pub mod Grammar
+pub mod Laws

@@ -1,0 +1,4 @@
+pub mod Least
+pub mod Multiples
+pub mod Stands
+pub mod Steps

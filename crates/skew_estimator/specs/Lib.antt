@@ -1,0 +1,3 @@
+pub mod Estimator
+pub mod Near
+pub mod Segment

@@ -1,0 +1,4 @@
+pub mod Counting
+pub mod Sources
+pub mod Table
+pub mod History

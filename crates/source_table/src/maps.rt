@@ -1,0 +1,102 @@
+//! The maps of a table, by their entries in order.
+ghost use Rattle.std.specs.Prelude.{◌≡◌, ◌↔◌, ◌<◌, nat_eq, not, map, filter, length, slice_get, IsSome, IsTrue, IfOk, OnErr, OnOk, Some};
+ghost use Rattle.std.specs.Map.{lookup};
+ghost use Rattle.std.specs.List.{list_any};
+ghost use Rattle.indexmap.specs.IndexMap.{insert_entry};
+ghost use Rattle.source_table.specs.Sources.{is_gone};
+
+use crate::source::Source;
+use indexmap::IndexMap;
+use rtp_units::{Address, Blob, OutOfMemory};
+use std::alloc::Global;
+
+pub(crate) fn same_address(a: &Address, b: &Address) -> bool
+    ensures { IsTrue result ↔ (a.now ≡ b.now) }
+{
+    *a == *b
+}
+
+pub(crate) fn put(
+    sources: &mut IndexMap<u32, Source>,
+    ssrc: u32,
+    source: Source,
+) -> Result<(), OutOfMemory>
+    ensures ok { OnOk result (sources.new.entries ≡ insert_entry nat_eq sources.old.entries ssrc source) }
+    ensures err { OnErr result (sources.new.entries ≡ sources.old.entries) }
+{
+    sources.insert(ssrc, source)?;
+    Ok(())
+}
+
+/// Gives a source that is there its new state, which takes no memory.
+pub(crate) fn replace(sources: &mut IndexMap<u32, Source>, ssrc: u32, source: Source)
+    requires { IsSome (lookup (nat_eq ssrc) sources.old.entries) }
+    ensures { sources.new.entries ≡ insert_entry nat_eq sources.old.entries ssrc source }
+{
+    match sources.insert(ssrc, source) {
+        Ok(_) => {}
+        Err(_) => unreachable!(),
+    }
+}
+
+pub(crate) fn has_name(names: &IndexMap<u32, Blob>, ssrc: u32, text: &[u8]) -> bool
+    ensures { IsTrue result ↔ (lookup (nat_eq ssrc) names.now.entries ≡ Some text.now) }
+{
+    match names.get(&ssrc) {
+        None => false,
+        Some(name) => name.bytes() == text,
+    }
+}
+
+pub(crate) fn put_name(
+    names: &mut IndexMap<u32, Blob>,
+    ssrc: u32,
+    name: Blob,
+) -> Result<(), OutOfMemory>
+    ensures ok { OnOk result (names.new.entries ≡ insert_entry nat_eq names.old.entries ssrc name) }
+    ensures err { OnErr result (names.new.entries ≡ names.old.entries) }
+{
+    names.insert(ssrc, name)?;
+    Ok(())
+}
+
+/// The SSRCs of sources that are to be removed, in order.
+pub(crate) fn gone_of(
+    alloc: Global,
+    sources: &IndexMap<u32, Source>,
+    now: u64,
+    timeout: u64,
+) -> Result<Vec<u32>, OutOfMemory>
+    ensures { IfOk result (λ ssrcs. ssrcs.items ≡ map (λ e. e.0) (filter (λ e. is_gone e.1 now timeout) sources.now.entries)) }
+{
+    let mut ssrcs = Vec::new(alloc);
+    for i in 0..sources.len() {
+        let (ssrc, source) = entry_at(sources, i);
+        if source.is_gone(now, timeout) {
+            ssrcs.push(ssrc)?;
+        }
+    }
+    Ok(ssrcs)
+}
+
+fn entry_at(sources: &IndexMap<u32, Source>, i: usize) -> (u32, Source)
+    requires { i < length sources.now.entries }
+    ensures { slice_get sources.now.entries i ≡ Some result }
+{
+    match sources.get_index(i) {
+        Some((ssrc, source)) => (*ssrc, *source),
+        None => unreachable!(),
+    }
+}
+
+pub(crate) fn keep_sources(sources: &mut IndexMap<u32, Source>, now: u64, timeout: u64)
+    ensures { sources.new.entries ≡ filter (λ e. not (is_gone e.1 now timeout)) sources.old.entries }
+{
+    sources.retain(|_ssrc, source| !source.is_gone(now, timeout));
+}
+
+pub(crate) fn keep_names(names: &mut IndexMap<u32, Blob>, gone: &[u32])
+    ensures { names.new.entries ≡ filter (λ e. not (list_any (nat_eq e.0) gone.now)) names.old.entries }
+{
+    names.retain(|ssrc, _name| !gone.contains(ssrc));
+}

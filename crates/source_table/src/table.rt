@@ -1,0 +1,197 @@
+//! The table of a session.
+ghost use Rattle.std.specs.Prelude.{◌≡◌, ◌<◌, ◌≤◌, ◌^◌, ℕ, nat_eq, length, is_some, IfOk, OnErr, option_map};
+ghost use Rattle.source_table.specs.Sources.{report_next, left_next, reported};
+ghost use Rattle.source_table.specs.Table.{Table, empty, kept, name_of, packet_of, changed, Hears, Names, gone, expired, block_in};
+
+use crate::answers::{Named, Refuse};
+use crate::maps::{
+    gone_of, has_name, keep_names, keep_sources, put, put_name, replace, same_address,
+};
+use crate::source::{Heard, Packet, Source};
+use indexmap::IndexMap;
+use rtcp_wire::ReportBlock;
+use rtp_units::{Address, Blob, OutOfMemory};
+use rtp_wire::RtpView;
+use std::alloc::Global;
+use std::marker::Model;
+
+/// The most sources of a table.
+const MAX_SOURCES: usize = 64;
+
+/// The sources of a session, in order of first sight.
+#[derive(Drop)]
+pub struct SourceTable {
+    own: u32,
+    probation: u8,
+    heard: u64,
+    sources: IndexMap<u32, Source>,
+    names: IndexMap<u32, Blob>,
+}
+
+impl Model for SourceTable {
+    ghost use Rattle.source_table.specs.Table.{Table};
+
+    ghost Value = { Table };
+
+    ghost view = { λ t. record { own = t.own; probation = t.probation; heard = t.heard; sources = t.sources.entries; names = t.names.entries } };
+}
+
+impl SourceTable {
+    /// An empty table of a session with this SSRC. `probation` is how many consecutive packets make a
+    /// source valid; 0 and 1 mean at once.
+    pub fn new(alloc: Global, own: u32, probation: u8) -> Result<SourceTable, OutOfMemory>
+        ensures { IfOk result (λ t. t ≡ empty own probation) }
+    {
+        Ok(SourceTable {
+            own,
+            probation,
+            heard: 0,
+            sources: IndexMap::with_capacity(alloc, MAX_SOURCES)?,
+            names: IndexMap::with_capacity(alloc, 0)?,
+        })
+    }
+
+    /// How often `hear_rtp` answered Ok.
+    pub fn heard(&self) -> u64
+        ensures { result ≡ self.now.heard }
+    {
+        self.heard
+    }
+
+    /// Hears a packet of RTP that came from this address at `now` nanoseconds. `rate` is the clock rate of
+    /// its payload type, where one is known; with `quick` the source is valid at once.
+    pub fn hear_rtp(
+        &mut self,
+        now: u64,
+        from: Address,
+        view: &RtpView<'_>,
+        rate: Option<u32>,
+        quick: bool,
+    ) -> Result<Heard, Refuse>
+        requires { self.old.heard < 2 ^ 40 }
+        ensures { Hears self.old from view.now.ssrc (packet_of self.old now view.now rate quick) result self.new }
+    {
+        let ssrc = view.ssrc();
+        if ssrc == self.own {
+            return Err(Refuse::Own);
+        }
+        let packet = Packet {
+            arrival: now,
+            seq: view.seq(),
+            timestamp: view.timestamp(),
+            rate,
+            needed: if quick { 1 } else { self.probation.max(1) },
+        };
+        let source = match self.sources.get(&ssrc) {
+            Some(source) => {
+                if !same_address(&source.from, &from) {
+                    return Err(Refuse::Collision {
+                        kept: source.from,
+                        new: from,
+                    });
+                }
+                *source
+            }
+            None => {
+                if self.sources.len() >= MAX_SOURCES {
+                    return Err(Refuse::LimitSources);
+                }
+                Source::new(from)
+            }
+        };
+        match put(&mut self.sources, ssrc, source.heard(&packet)) {
+            Ok(()) => {}
+            Err(_) => return Err(Refuse::OutOfMemory),
+        }
+        self.heard += 1;
+        Ok(source.answer(&packet))
+    }
+
+    /// Hears a sender report with this NTP timestamp. False where the source is not kept.
+    pub fn hear_sr(&mut self, now: u64, ssrc: u32, seconds: u32, fraction: u32) -> bool
+        ensures value { result ≡ is_some (kept self.old ssrc) }
+        ensures after { self.new ≡ changed self.old ssrc (λ s. report_next s now seconds fraction) }
+    {
+        match self.sources.get(&ssrc) {
+            None => false,
+            Some(source) => {
+                let after = source.reported_by(now, seconds, fraction);
+                replace(&mut self.sources, ssrc, after);
+                true
+            }
+        }
+    }
+
+    /// Hears that a source leaves. False where the source is not kept.
+    pub fn hear_bye(&mut self, ssrc: u32) -> bool
+        ensures value { result ≡ is_some (kept self.old ssrc) }
+        ensures after { self.new ≡ changed self.old ssrc left_next }
+    {
+        match self.sources.get(&ssrc) {
+            None => false,
+            Some(source) => {
+                let after = Source {
+                    left: true,
+                    ..*source
+                };
+                replace(&mut self.sources, ssrc, after);
+                true
+            }
+        }
+    }
+
+    /// The name of a source, where it is kept and has one.
+    pub fn cname(&self, ssrc: u32) -> Option<&[u8]>
+        ensures { option_map (λ text. text.now) result ≡ name_of self.now ssrc }
+    {
+        match self.names.get(&ssrc) {
+            None => None,
+            Some(text) => Some(text.bytes()),
+        }
+    }
+
+    /// What a report tells of a source that is valid and spoke since its last block. The next block begins
+    /// a new interval.
+    pub fn block(&mut self, ssrc: u32, now: u64) -> Option<ReportBlock>
+        ensures value { result ≡ block_in (kept self.old ssrc) ssrc now }
+        ensures after { self.new ≡ changed self.old ssrc reported }
+    {
+        match self.sources.get(&ssrc) {
+            None => None,
+            Some(source) => {
+                let block = source.block(ssrc, now);
+                let after = source.after_block();
+                replace(&mut self.sources, ssrc, after);
+                block
+            }
+        }
+    }
+
+    /// Sets the name of a kept source, a text of at most 255 bytes. After a refusal the table is as before.
+    pub fn set_cname(&mut self, alloc: Global, ssrc: u32, text: &[u8]) -> Result<Named, OutOfMemory>
+        requires { length text.now ≤ 255 }
+        ensures ok { IfOk result (λ named. Names self.old ssrc text.now named self.new) }
+        ensures err { OnErr result (self.new ≡ self.old) }
+    {
+        if !self.sources.contains_key(&ssrc) {
+            return Ok(Named::Unknown);
+        }
+        if has_name(&self.names, ssrc, text) {
+            return Ok(Named::Same);
+        }
+        put_name(&mut self.names, ssrc, Blob::copy_of(alloc, text)?)?;
+        Ok(Named::Changed)
+    }
+
+    /// Removes each source that said BYE, or whose last packet of RTP or sender report came more than
+    /// `timeout` before `now`, and gives their SSRCs in table order. After a refusal the table is as before.
+    pub fn expire(&mut self, alloc: Global, now: u64, timeout: u64) -> Result<Vec<u32>, OutOfMemory>
+        ensures ok { IfOk result (λ ssrcs. (ssrcs.items ≡ gone self.old now timeout) × (self.new ≡ expired self.old now timeout)) }
+        ensures err { OnErr result (self.new ≡ self.old) }
+    {
+        let ssrcs = gone_of(alloc, &self.sources, now, timeout)?;
+        keep_sources(&mut self.sources, now, timeout);
+        keep_names(&mut self.names, ssrcs.as_slice());
+        Ok(ssrcs)
+    }
+}
