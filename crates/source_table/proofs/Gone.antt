@@ -1,5 +1,5 @@
 -- The sources that are gone, one entry more.
-use Rattle.std.proofs.Common.{◌≡◌, ℕ, zero, suc, ◌+◌, ◌<◌, Bool, true, false, cond, List, [], ◌∷◌, ◌++◌, length, get_or, take, map, filter, Option, Some, None, refl, sym, ap, ◌∙◌, arith, slice_get}
+use Rattle.std.proofs.Common.{◌≡◌, ℕ, zero, suc, ◌+◌, ◌<◌, Bool, true, false, cond, List, [], ◌∷◌, ◌++◌, length, get_or, take, map, filter, Some, refl, ap, ◌∙◌, arith, slice_get}
 use Rattle.std.proofs.lemmas.List.{take_more, map-append, append-nil}
 use Rattle.source_table.specs.declared.source.Source.{Source}
 

@@ -1,21 +1,20 @@
 -- A table keeps of each source what the calls on it leave.
-use Rattle.std.proofs.Common.{◌≡◌, ℕ, zero, suc, Bool, true, false, cond, not, nat_eq, List, [], ◌∷◌, Option, Some, None, Result, Ok, Err, filter, max, refl, sym, ap, subst, ◌∙◌, arith}
+use Rattle.std.proofs.Common.{◌≡◌, ℕ, Bool, true, false, cond, not, nat_eq, List, [], ◌∷◌, Option, Some, None, Ok, Err, filter, refl, sym, ap, subst, ◌∙◌, arith}
 use Rattle.std.specs.Prelude.{option_map}
 use Rattle.std.specs.Map.{lookup}
-use Rattle.std.proofs.lemmas.Bool.{eq-eqb, eqb-true, eqb-false}
+use Rattle.std.proofs.lemmas.Bool.{eq-eqb, eqb-true}
 use Rattle.std.proofs.lemmas.Bool.Decides.{nat_tests}
 use Rattle.indexmap.specs.IndexMap.{insert_entry}
 use Rattle.rtp_units.specs.declared.shared.Address.{Address}
 use Rattle.rtp_wire.specs.Packet.{Packet as View}
 use Rattle.source_table.specs.declared.source.Source.{Source}
-use Rattle.source_table.specs.declared.source.Packet.{Packet}
 use Rattle.source_table.specs.declared.source.Heard.{Heard}
 use Rattle.source_table.specs.declared.answers.Refuse.{Refuse}
 use Rattle.source_table.specs.declared.answers.Refuse.TheVariants.{Own, LimitSources, Collision, OutOfMemory}
 use Rattle.source_table.specs.declared.answers.Named.{Named}
 use Rattle.source_table.specs.declared.answers.Named.TheVariants.{Unknown, Same, Changed}
-use Rattle.source_table.specs.Sources.{fresh, hear_next, report_next, left_next, is_gone, reported}
-use Rattle.source_table.specs.Table.{Table, empty, kept, needed, packet_of, with_source, changed_by, changed, Takes, Hears, Names, named_next, expired}
+use Rattle.source_table.specs.Sources.{hear_next, report_next, left_next, is_gone, reported}
+use Rattle.source_table.specs.Table.{Table, kept, packet_of, with_source, changed_by, changed, Takes, Hears, Names}
 use Rattle.source_table.specs.History.{Call, Rtp, Reports, Leaves, Sets, Blocks, Expires, Leads, StandsFor, source_or, packet_by, only_if, alone_next, alone, IsIsolated}
 
 abbrev Entries : Type 0

@@ -1,6 +1,6 @@
 -- Probation, counts and jitter of a source (after RFC 3550, appendices A.1, A.3 and A.8).
 use Rattle.std.specs.Prelude.{ℕ, ℤ, pos, ◌+◌, ◌-◌, ◌*◌, ◌/◌, ◌%◌, ◌==◌, ◌&&◌, not, nat_lt, nat_le, min, if◌then◌else◌, Bool, true, false, Option, Some, None}
-use Rattle.std.specs.Prelude.{negsuc, neg_ℤ}
+use Rattle.std.specs.Prelude.{neg_ℤ}
 use Rattle.source_table.specs.declared.run.Run.{Run}
 use Rattle.source_table.specs.declared.counts.Counts.{Counts}
 use Rattle.source_table.specs.declared.counts.Counted.{Counted}

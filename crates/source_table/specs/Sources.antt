@@ -1,12 +1,9 @@
 -- A source as the fold of what was heard of it since it was added.
-use Rattle.std.specs.Prelude.{ℕ, ◌+◌, ◌-◌, ◌/◌, ◌%◌, ◌==◌, ◌&&◌, ◌||◌, not, nat_lt, nat_le, min, if◌then◌else◌, Bool, true, false, Option, Some, None}
+use Rattle.std.specs.Prelude.{ℕ, ◌-◌, ◌/◌, ◌%◌, ◌==◌, ◌&&◌, ◌||◌, not, nat_lt, nat_le, min, if◌then◌else◌, Bool, true, false, Option, Some, None}
 use Rattle.rtp_units.specs.Numbers.{ntp_middle_bits, delay_units}
 use Rattle.rtp_units.specs.declared.shared.Address.{Address}
 use Rattle.rtcp_wire.specs.declared.block.ReportBlock.{ReportBlock}
-use Rattle.source_table.specs.declared.run.Run.{Run}
 use Rattle.source_table.specs.declared.counts.Counts.{Counts}
-use Rattle.source_table.specs.declared.counts.Counted.{Counted}
-use Rattle.source_table.specs.declared.jitter.Jitter.{Jitter}
 use Rattle.source_table.specs.declared.source.Source.{Source}
 use Rattle.source_table.specs.declared.source.Packet.{Packet}
 use Rattle.source_table.specs.declared.source.Report.{Report}

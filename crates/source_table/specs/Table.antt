@@ -1,5 +1,5 @@
 -- A table of sources in order of first sight, and what each call leaves of it.
-use Rattle.std.specs.Prelude.{◌≡◌, ◌<◌, ◌≤◌, ℕ, ◌+◌, ◌==◌, not, nat_eq, if◌then◌else◌, Bool, List, [], ◌∷◌, ◌++◌, length, map, filter, Option, Some, None, Result, Ok, Err, is_some, option_map, option_and_then, max}
+use Rattle.std.specs.Prelude.{◌≡◌, ◌<◌, ◌≤◌, ℕ, ◌+◌, not, nat_eq, if◌then◌else◌, Bool, List, [], length, map, filter, Option, Some, None, Result, Ok, Err, max}
 use Rattle.std.specs.Map.{lookup}
 use Rattle.std.specs.List.{list_any}
 use Rattle.indexmap.specs.IndexMap.{insert_entry}
@@ -13,7 +13,7 @@ use Rattle.source_table.specs.declared.answers.Refuse.{Refuse}
 use Rattle.source_table.specs.declared.answers.Refuse.TheVariants.{Own, LimitSources, Collision, OutOfMemory}
 use Rattle.source_table.specs.declared.answers.Named.{Named}
 use Rattle.source_table.specs.declared.answers.Named.TheVariants.{Unknown, Same, Changed}
-use Rattle.source_table.specs.Sources.{fresh, hear_next, hear_answer, report_next, left_next, is_gone, block_of, reported}
+use Rattle.source_table.specs.Sources.{fresh, hear_next, hear_answer, is_gone, block_of}
 
 -- what a table keeps: its own SSRC, the setting of probation, how many packets it heard, the sources and their names
 pub record Table : Type 0 where

@@ -12,48 +12,51 @@ const HOME: Address = Address {
     port: 40000,
 };
 
-/// Hears a packet of source 0x11223344 with this number and timestamp, at a clock of 90,000.
-fn hear(
+const SSRC: u32 = 0x1122_3344;
+
+/// Hears a packet with this number and timestamp, at a clock of 90,000.
+fn hear_of(
     rt: &impl Abort,
     table: &mut SourceTable,
     now: u64,
     from: Address,
-    seq: u8,
-    timestamp: [u8; 2],
+    ssrc: u32,
+    seq: u16,
+    timestamp: u32,
 ) -> Result<Heard, Refuse> {
-    assert!(rt; table.heard() < 1000);
-    let bytes = [
-        0x80,
-        0x60,
-        0,
-        seq,
-        0,
-        0,
-        timestamp[0],
-        timestamp[1],
-        0x11,
-        0x22,
-        0x33,
-        0x44,
-    ];
-    match read(&bytes) {
+    assert!(rt; table.heard() < 100_000);
+    let [s0, s1] = seq.to_be_bytes();
+    let [t0, t1, t2, t3] = timestamp.to_be_bytes();
+    let [a, b, c, d] = ssrc.to_be_bytes();
+    match read(&[0x80, 0x60, s0, s1, t0, t1, t2, t3, a, b, c, d]) {
         Ok(view) => table.hear_rtp(now, from, &view, Some(90000), false),
         Err(_) => Err(Refuse::OutOfMemory),
     }
 }
 
+fn hear(
+    rt: &impl Abort,
+    table: &mut SourceTable,
+    now: u64,
+    from: Address,
+    seq: u16,
+    timestamp: u32,
+) -> Result<Heard, Refuse> {
+    hear_of(rt, table, now, from, SSRC, seq, timestamp)
+}
+
 #[test]
 fn blocks_of_a_source(rt: HostRuntime) -> Result<(), Fail> {
     let mut table = SourceTable::new(rt.alloc(), 1, 2)?;
-    let ssrc = 0x11223344;
+    let ssrc = SSRC;
     let waiting = Ok(Heard::Waiting { broken: false });
-    assert_eq!(rt; hear(&rt, &mut table, 0, HOME, 1, [0, 0]), waiting);
+    assert_eq!(rt; hear(&rt, &mut table, 0, HOME, 1, 0), waiting);
     assert_eq!(rt;
-        hear(&rt, &mut table, 20_000_000, HOME, 2, [7, 8]),
+        hear(&rt, &mut table, 20_000_000, HOME, 2, 1800),
         Ok(Heard::NowValid)
     );
     assert_eq!(rt;
-        hear(&rt, &mut table, 60_000_000, HOME, 4, [0x15, 0x18]),
+        hear(&rt, &mut table, 60_000_000, HOME, 4, 5400),
         Ok(Heard::Valid)
     );
     let block = table.block(ssrc, 70_000_000).ok_or("no block")?;
@@ -67,7 +70,7 @@ fn blocks_of_a_source(rt: HostRuntime) -> Result<(), Fail> {
         ..HOME
     };
     assert_eq!(rt;
-        hear(&rt, &mut table, 90_000_000, other, 5, [0, 0]),
+        hear(&rt, &mut table, 90_000_000, other, 5, 0),
         Err(Refuse::Collision {
             kept: HOME,
             new: other
@@ -85,5 +88,53 @@ fn blocks_of_a_source(rt: HostRuntime) -> Result<(), Fail> {
         [ssrc].as_slice()
     );
     assert!(rt; !table.hear_bye(ssrc));
+    Ok(())
+}
+
+// Every number is 2999 above the one before it: most of what is expected never comes.
+#[test]
+fn counts_far_apart(rt: HostRuntime) -> Result<(), Fail> {
+    let mut table = SourceTable::new(rt.alloc(), 1, 0)?;
+    let mut seq = 0u16;
+    for _ in 0..2900 {
+        let heard = hear(&rt, &mut table, 0, HOME, seq, 0);
+        assert!(rt; heard.is_ok());
+        seq = seq.wrapping_add(2999);
+    }
+    let block = table.block(SSRC, 0).ok_or("no block")?;
+    assert_eq!(rt; block.fraction, 255);
+    assert_eq!(rt; block.lost, 0x7f_ffff);
+    assert_eq!(rt; block.greatest, 0x0084_a955);
+    Ok(())
+}
+
+#[test]
+fn counts_repeated(rt: HostRuntime) -> Result<(), Fail> {
+    let mut table = SourceTable::new(rt.alloc(), 1, 0)?;
+    for _ in 0..4 {
+        let heard = hear(&rt, &mut table, 0, HOME, 5, 0);
+        assert!(rt; heard.is_ok());
+    }
+    let block = table.block(SSRC, 0).ok_or("no block")?;
+    assert_eq!(rt; block.fraction, 0);
+    assert_eq!(rt; block.lost, -3);
+    assert_eq!(rt; table.block(SSRC, 0), None);
+    Ok(())
+}
+
+// What is kept of a source among others, of which 63 find room between any two of its packets.
+#[test]
+fn stands_in_a_flood(rt: HostRuntime) -> Result<(), Fail> {
+    let mut quiet = SourceTable::new(rt.alloc(), 1, 0)?;
+    let mut flooded = SourceTable::new(rt.alloc(), 1, 0)?;
+    for seq in 1..4 {
+        assert!(rt; hear(&rt, &mut quiet, 0, HOME, seq, 0).is_ok());
+        assert!(rt; hear(&rt, &mut flooded, 0, HOME, seq, 0).is_ok());
+        for other in 0..80 {
+            let heard = hear_of(&rt, &mut flooded, 0, HOME, 0x5566_0000 + other, seq, 0);
+            assert_eq!(rt; heard.is_ok(), other < 63);
+        }
+    }
+    assert_eq!(rt; flooded.block(SSRC, 0), quiet.block(SSRC, 0));
     Ok(())
 }
