@@ -17,10 +17,10 @@ use Rattle.jitter_model.specs.Covered.{count_in}
 use Rattle.jitter_model.specs.Times.{is_height, heights, is_next_height, height_after, skew_heights, pts_after, marks, found, first_pts}
 use Rattle.jitter_core.specs.declared.state.Span.{Span}
 use Rattle.jitter_core.specs.declared.state.State.{State}
-use Rattle.jitter_core.specs.Marks.{kept, with_mark, is_next_mark}
+use Rattle.jitter_core.specs.Marks.{kept_two, with_mark, is_next_mark}
 use Rattle.jitter_core.specs.Parts.{Placed, Clocked, Marked}
 use Rattle.jitter_core.specs.Steps.{Accepts, is_height_by, heights_after, time_after, mark_with, state_number}
-use Rattle.jitter_core.proofs.Kept.{is_next_is}
+use Rattle.jitter_core.proofs.Kept.{is_next_is, two_after}
 use Rattle.jitter_core.proofs.Rooted.{no_heights}
 
 -- the packet that is accepted, with its number
@@ -118,10 +118,14 @@ first_after : (s : Settings) (ps : List Taken) (p : Taken) → Some (unwrap_or (
 first_after s [] p = refl
 first_after s (q ∷ ps) p = some_first s ps q (pts_after s (q ∷ ps) p)
 
-marks_after : (s : Settings) (o : Option ℕ) (ps : List Taken) (p : Taken) → with_mark o (mark_with (top ps) p.arrival p.number (pts_after s ps p)) (kept o (marks s ps)) ≡ kept o (marks s (p ∷ ps))
+-- its mark
+abbrev mark_of : Settings → List Taken → Taken → Mark
+mark_of s ps p = record { number = p.number; pts = pts_after s ps p }
+
+marks_after : (s : Settings) (o : Option ℕ) (ps : List Taken) (p : Taken) → with_mark o (mark_with (top ps) p.arrival p.number (pts_after s ps p)) (kept_two o (marks s ps)) ≡ kept_two o (marks s (p ∷ ps))
 marks_after s o ps p =
-    elim (is_height ps p) as (λ b. with_mark o (if b then Some (record { number = p.number; pts = pts_after s ps p }) else None) (kept o (marks s ps)) ≡ kept o (if b then record { number = p.number; pts = pts_after s ps p } ∷ marks s ps else marks s ps)) [
-      | true ↦ refl
+    elim (is_height ps p) as (λ b. with_mark o (if b then Some (record { number = p.number; pts = pts_after s ps p }) else None) (kept_two o (marks s ps)) ≡ kept_two o (if b then record { number = p.number; pts = pts_after s ps p } ∷ marks s ps else marks s ps)) [
+      | true ↦ ap (λ (ms : List Mark). mark_of s ps p ∷ ms) (two_after o (marks s ps))
       | false ↦ refl
     ]
 
@@ -134,7 +138,7 @@ marked_accept old new ps o a same nx t c m r =
           ∙ ap (λ (y : ℕ). Some (unwrap_or old.span.first_pts y)) pts
           ∙ ap (λ (f : Option ℕ). Some (unwrap_or f (pts_after old.settings ps (taken ps a)))) m.first_is
           ∙ first_after old.settings ps (taken ps a));
-      marks_are = subst (λ (x : Settings). new.heights ≡ kept o (marks x (taken ps a ∷ ps))) (sym same)
+      marks_are = subst (λ (x : Settings). new.heights ≡ kept_two o (marks x (taken ps a ∷ ps))) (sym same)
           (r.heights
           ∙ ap (λ (y : ℕ). with_mark old.span.next (mark_with old.span.top a (state_number old a) y) old.heights) pts
           ∙ ap (λ (x : Option ℕ). with_mark old.span.next (mark_with x a (number_from x a.packet.seq) (pts_after old.settings ps (taken ps a))) old.heights) t

@@ -22,7 +22,7 @@ use Rattle.jitter_core.specs.Parts.{Placed, Marked}
 use Rattle.jitter_core.specs.Stands.{StandsFor}
 use Rattle.jitter_core.specs.Turning.{state_sight, output_turn, plain_turn, is_fast_by}
 use Rattle.jitter_core.proofs.Judging.{placed_now, marked_now, held_has}
-use Rattle.jitter_core.proofs.Kept.{expected-kept, kept_all}
+use Rattle.jitter_core.proofs.Kept.{expected-two, two_all}
 use Rattle.jitter_core.proofs.Passing.{all_ended_is}
 
 -- ---- without requests
@@ -146,8 +146,8 @@ low_is s h None p = ap (λ (l : Option ℕ). unwrap_or l 0) p.least_is
 low_is s h (Some n) p = refl
 
 expected_is : (s : State) (h : History) (o : Option ℕ) (m : ℕ) → Marked s (accepted h) o → low (sight s.settings h) o ≤ m → expected s.heights m ≡ expected (marks s.settings (accepted h)) m
-expected_is s h None m k le = ap (λ (ms : List Mark). expected ms m) (k.marks_are ∙ kept_all (marks s.settings (accepted h)))
-expected_is s h (Some n) m k le = ap (λ (ms : List Mark). expected ms m) k.marks_are ∙ expected-kept n m (marks s.settings (accepted h)) le
+expected_is s h None m k le = ap (λ (ms : List Mark). expected ms m) (k.marks_are ∙ two_all (marks s.settings (accepted h)))
+expected_is s h (Some n) m k le = ap (λ (ms : List Mark). expected ms m) k.marks_are ∙ expected-two n m (marks s.settings (accepted h)) le
 
 held_now : (s : State) (h : History) (n : ℕ) → is_flushing h ≡ false → Placed s (accepted h) (next h) (is_out h) → map.get s.held n ≡ held s.settings h n
 held_now s h n e p = p.held_are n ∙ rw e refl

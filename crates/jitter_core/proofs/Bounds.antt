@@ -21,7 +21,7 @@ use Rattle.jitter_core.specs.Parts.{Placed, Clocked, Marked}
 use Rattle.jitter_core.specs.Steps.{IsBounded}
 use Rattle.jitter_core.specs.Stands.{live, live_next, live_out}
 use Rattle.jitter_core.proofs.Rooted.{IsRooted, rooted, opened_rooted, some_estimate, few_heights, length-skew}
-use Rattle.jitter_core.proofs.Kept.{marks_bounded, kept_to, marks_to, first_small, kept_room}
+use Rattle.jitter_core.proofs.Kept.{marks_bounded, two_to, marks_to, first_small, kept_room}
 use Rattle.jitter_core.proofs.Owed.{IsGiven, all_given}
 
 -- what is known of the accepted packets of a segment
@@ -167,7 +167,7 @@ segment_bounded s ps o out latency p c m g =
       least_top = rw (p.least_is, p.top_is) (least_to _ _ _ are);
       started = λ e. ap is_some c.stands.estimated ∙ some_estimate s.skew.rate s.skew.mode ps g.rooted (sym (ap is_some p.top_is) ∙ e);
       few = omega (arith, c.stands.counts, length-skew (heights ps), few_heights ps, g.few);
-      heights = rw m.marks_are (marks_bounded _ _ (top_under _ _ _ are g.few) (kept_to _ o _ (marks_to s.settings ps)));
+      heights = rw m.marks_are (marks_bounded _ _ (top_under _ _ _ are g.few) (two_to _ o _ (marks_to s.settings ps)));
       room = rw m.marks_are (kept_room s.settings o ps g.window);
       held_from = λ q e. let x : (out q ≡ false) × (has ps q ≡ true) = held_facts s ps o out q p e in
           rw (p.next_is, p.least_is) (not_late ps o out q (g.given q) x.0 x.1, has-ge ps q x.1);

@@ -1,6 +1,6 @@
 -- The heights that are kept serve as well as all of them, and there is room for them.
 use Rattle.std.proofs.Common.{ℕ, zero, suc, ◌≡◌, ◌+◌, ◌-◌, ◌≤◌, ◌<◌, ◌^◌, true, false, refl, ap, ◌∙◌, List, [], ◌∷◌, Option, None, Some, length, arith, max, min}
-use Rattle.std.specs.Prelude.{⊤, ℤ, pos, negsuc, ◌==◌, unwrap_or, nat_le, if◌then◌else◌}
+use Rattle.std.specs.Prelude.{⊤, ℤ, pos, negsuc, unwrap_or, nat_le, if◌then◌else◌}
 use Rattle.std.proofs.lemmas.Grind.{common_steps}
 use Rattle.rtp_units.specs.Numbers.{hold}
 use Rattle.skew_model.specs.Skew.{Estimate, estimate_after, height_time}
@@ -8,9 +8,8 @@ use Rattle.jitter_model.specs.declared.Settings.{Settings}
 use Rattle.jitter_model.specs.declared.Mark.{Mark}
 use Rattle.jitter_model.specs.Accepted.{Taken, top, least}
 use Rattle.jitter_model.specs.Times.{is_above, is_height, heights, is_next_height, height_after, estimate_of, time_of, pts_after, marks, first_pts, expected, expected_below, between}
-use Rattle.jitter_model.proofs.Chain.{split}
 use Rattle.jitter_model.proofs.Window.{InWindow}
-use Rattle.jitter_core.specs.Marks.{kept, from_mark, is_next_mark, AreMarksBounded}
+use Rattle.jitter_core.specs.Marks.{kept, kept_two, before_another, from_mark, is_next_mark, AreMarksBounded}
 
 -- ---- expected times by the kept heights
 
@@ -28,21 +27,7 @@ expected_below-kept : (k n : ℕ) (b : Mark) (ms : List Mark) → k ≤ n → ex
 expected_below-kept k n b [] le = refl
 expected_below-kept k n b (a ∷ ms) le = expected_below-from k n b a (kept (Some k) ms) ms le (λ e. expected_below-kept k n a ms le)
 
-expected-from : (k n : ℕ) (a : Mark) (ms ns : List Mark) → k ≤ n → (nat_le a.number n ≡ false → expected_below a ms n ≡ expected_below a ns n) → expected (from_mark (Some k) a ms) n ≡ expected (a ∷ ns) n
-expected-from k n a ms ns le same =
-    elim (nat_le a.number k) as (λ x. (nat_le a.number k ≡ x) → expected (if x then a ∷ [] else a ∷ ms) n ≡ expected (a ∷ ns) n) [
-      | true ↦ λ e. let there : nat_le a.number n ≡ true = grind (arith, common_steps) in rw there refl
-      | false ↦ λ e. elim (nat_le a.number n) as (λ y. (y ≡ false → expected_below a ms n ≡ expected_below a ns n) → (if y then a.pts else expected_below a ms n) ≡ (if y then a.pts else expected_below a ns n)) [
-        | true ↦ λ _. refl
-        | false ↦ λ f. f refl
-      ] same
-    ] refl
-
-pub expected-kept : (k n : ℕ) (ms : List Mark) → k ≤ n → expected (kept (Some k) ms) n ≡ expected ms n
-expected-kept k n [] le = refl
-expected-kept k n (a ∷ ms) le = expected-from k n a (kept (Some k) ms) ms le (λ e. expected_below-kept k n a ms le)
-
-pub kept_all : (ms : List Mark) → kept None ms ≡ ms
+kept_all : (ms : List Mark) → kept None ms ≡ ms
 kept_all [] = refl
 kept_all (m ∷ ms) = ap (λ (ns : List Mark). m ∷ ns) (kept_all ms)
 
@@ -59,19 +44,33 @@ kept_from (Some j) k m ms le =
       | false ↦ λ e. refl
     ] refl
 
-pub kept_kept : (o : Option ℕ) (k : ℕ) (ms : List Mark) → IsBelow o k → kept (Some k) (kept o ms) ≡ kept (Some k) ms
+kept_kept : (o : Option ℕ) (k : ℕ) (ms : List Mark) → IsBelow o k → kept (Some k) (kept o ms) ≡ kept (Some k) ms
 kept_kept o k [] le = refl
 kept_kept o k (m ∷ ms) le = kept_from o k m (kept o ms) le ∙ ap (from_mark (Some k) m) (kept_kept o k ms le)
 
+-- ---- the same with the last two
+
+pub two_all : (ms : List Mark) → kept_two None ms ≡ ms
+two_all [] = refl
+two_all (m ∷ ms) = ap (λ (ns : List Mark). m ∷ ns) (kept_all ms)
+
+pub two_two : (o : Option ℕ) (k : ℕ) (ms : List Mark) → IsBelow o k → kept_two (Some k) (kept_two o ms) ≡ kept_two (Some k) ms
+two_two o k [] le = refl
+two_two o k (m ∷ ms) le = ap (λ (ns : List Mark). m ∷ ns) (kept_kept o k ms le)
+
+pub expected-two : (k n : ℕ) (ms : List Mark) → k ≤ n → expected (kept_two (Some k) ms) n ≡ expected ms n
+expected-two k n [] le = refl
+expected-two k n (m ∷ ms) le = ap (λ (x : ℕ). if nat_le m.number n then m.pts else x) (expected_below-kept k n m ms le)
+
+pub two_after : (o : Option ℕ) (ms : List Mark) → before_another o (kept_two o ms) ≡ kept o ms
+two_after o [] = refl
+two_after o (m ∷ ms) = refl
+
 -- ---- the latest height
 
-next_from : (o : Option ℕ) (m : Mark) (ms : List Mark) (n : ℕ) → is_next_mark (from_mark o m ms) n ≡ (n == m.number + 1)
-next_from None m ms n = refl
-next_from (Some k) m ms n = split (λ (xs : List Mark). is_next_mark xs n ≡ (n == m.number + 1)) (nat_le m.number k) (m ∷ []) (m ∷ ms) (λ _. refl) (λ _. refl)
-
-next_kept : (o : Option ℕ) (ms : List Mark) (n : ℕ) → is_next_mark (kept o ms) n ≡ is_next_mark ms n
-next_kept o [] n = refl
-next_kept o (m ∷ ms) n = next_from o m (kept o ms) n
+next_two : (o : Option ℕ) (ms : List Mark) (n : ℕ) → is_next_mark (kept_two o ms) n ≡ is_next_mark ms n
+next_two o [] n = refl
+next_two o (m ∷ ms) n = refl
 
 next_marks : (s : Settings) (ps : List Taken) (n : ℕ) → is_next_mark (marks s ps) n ≡ is_next_height (heights ps) n
 next_marks s [] n = refl
@@ -81,8 +80,8 @@ next_marks s (p ∷ ps) n =
       | false ↦ next_marks s ps n
     ]
 
-pub is_next_is : (s : Settings) (o : Option ℕ) (ps : List Taken) (n : ℕ) → is_next_mark (kept o (marks s ps)) n ≡ is_next_height (heights ps) n
-is_next_is s o ps n = next_kept o (marks s ps) n ∙ next_marks s ps n
+pub is_next_is : (s : Settings) (o : Option ℕ) (ps : List Taken) (n : ℕ) → is_next_mark (kept_two o (marks s ps)) n ≡ is_next_height (heights ps) n
+is_next_is s o ps n = next_two o (marks s ps) n ∙ next_marks s ps n
 
 -- ---- bounds
 
@@ -127,9 +126,13 @@ from_mark_to t (Some n) m ms a b h =
       | false ↦ (a, b, h)
     ]
 
-pub kept_to : (t : ℕ) (o : Option ℕ) (ms : List Mark) → AreMarksTo t ms → AreMarksTo t (kept o ms)
+kept_to : (t : ℕ) (o : Option ℕ) (ms : List Mark) → AreMarksTo t ms → AreMarksTo t (kept o ms)
 kept_to t o [] h = tt
 kept_to t o (m ∷ ms) h = from_mark_to t o m (kept o ms) h.0 h.1 (kept_to t o ms h.2)
+
+pub two_to : (t : ℕ) (o : Option ℕ) (ms : List Mark) → AreMarksTo t ms → AreMarksTo t (kept_two o ms)
+two_to t o [] h = tt
+two_to t o (m ∷ ms) h = (h.0, h.1, kept_to t o ms h.2)
 
 pub marks_bounded : (t : ℕ) (ms : List Mark) → t ≤ 2 ^ 62 → AreMarksTo t ms → AreMarksBounded ms
 marks_bounded t [] le h i d lt = absurd (omega arith)
@@ -178,9 +181,6 @@ falling s (p ∷ ps) =
       | false ↦ λ e. higher l _ _ (marks s ps) (omega arith) rest
     ] refl
 
-long_from : (k : ℕ) (m : Mark) (ms : List Mark) (c : ℕ) → length ms ≤ c → length (from_mark (Some k) m ms) ≤ suc c
-long_from k m ms c le = split (λ (xs : List Mark). length xs ≤ suc c) (nat_le m.number k) (m ∷ []) (m ∷ ms) (λ _. omega arith) (λ _. omega arith)
-
 -- down to k there are at most t - k
 kept_few : (k l t : ℕ) (ms : List Mark) → AreFalling l t ms → length (kept (Some k) ms) ≤ (t - (k + 1)) + 1
 kept_few k l t [] h = omega arith
@@ -194,10 +194,14 @@ all_few : (l t : ℕ) (ms : List Mark) → AreFalling l t ms → length ms ≤ t
 all_few l t [] h = omega arith
 all_few l t (m ∷ ms) h = omega (arith, h.0, h.1, all_few l m.number ms h.2)
 
+two_room : (k l t : ℕ) (ms : List Mark) → AreFalling l (t + 1) ms → t < k + 8192 → length (kept_two (Some k) ms) ≤ 8192
+two_room k l t [] h lt = omega arith
+two_room k l t (m ∷ ms) h lt = omega (arith, h.0, kept_few k l m.number ms h.2)
+
 -- there is room for the kept heights of a window
-pub kept_room : (s : Settings) (o : Option ℕ) (ps : List Taken) → InWindow (top ps) (least ps) o → length (kept o (marks s ps)) ≤ 8192
+pub kept_room : (s : Settings) (o : Option ℕ) (ps : List Taken) → InWindow (top ps) (least ps) o → length (kept_two o (marks s ps)) ≤ 8192
 kept_room s o [] w = omega arith
 kept_room s None (p ∷ ps) w =
-    let is : length (kept None (marks s (p ∷ ps))) ≡ length (marks s (p ∷ ps)) = ap (λ (ms : List Mark). length ms) (kept_all (marks s (p ∷ ps))) in
+    let is : length (kept_two None (marks s (p ∷ ps))) ≡ length (marks s (p ∷ ps)) = ap (λ (ms : List Mark). length ms) (two_all (marks s (p ∷ ps))) in
     omega (arith, is, w.fact.0, w.fact.1, all_few _ _ (marks s (p ∷ ps)) (falling s (p ∷ ps)))
-kept_room s (Some k) (p ∷ ps) w = omega (arith, w.fact.0, kept_few k _ _ (marks s (p ∷ ps)) (falling s (p ∷ ps)))
+kept_room s (Some k) (p ∷ ps) w = two_room k _ (unwrap_or (top (p ∷ ps)) 0) (marks s (p ∷ ps)) (falling s (p ∷ ps)) w.fact.0

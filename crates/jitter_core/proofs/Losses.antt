@@ -14,29 +14,10 @@ least_from-skip passes n e lt fails =
     let count : e - n ≡ suc (e - (n + 1)) = omega arith in
     rw count (least_from-next passes n (e - (n + 1)) fails)
 
-least_from-first : (passes : ℕ → Bool) (n count : ℕ) → passes n ≡ true → n ≡ least_from passes n (suc count)
-least_from-first passes n count e = rw e refl
-
--- one that passes is the least
-pub least_from-here : (passes : ℕ → Bool) (n e : ℕ) → n < e → passes n ≡ true → n ≡ least_from passes n (e - n)
-least_from-here passes n e lt passed =
-    let count : e - n ≡ suc (e - (n + 1)) = omega arith in
-    rw count (least_from-first passes n (e - (n + 1)) passed)
-
-pub least_from-none : (passes : ℕ → Bool) (n : ℕ) → n ≡ least_from passes n (n - n)
-least_from-none passes n = let none : n - n ≡ zero = omega arith in rw none refl
-
 -- a number that is not there and whose deadline has passed
 pub is_passed : (there : Bool) (time deadline : ℕ) → there ≡ false → deadline ≤ time → (there || nat_lt time deadline) ≡ false
 is_passed true time deadline e le = e
 is_passed false time deadline e le = grind (arith, common_steps)
-
-pub is_there : (there late : Bool) → there ≡ true → (there || late) ≡ true
-is_there there late e = rw e refl
-
-pub is_early : (there : Bool) (time deadline : ℕ) → time < deadline → (there || nat_lt time deadline) ≡ true
-is_early true time deadline lt = refl
-is_early false time deadline lt = grind (arith, common_steps)
 
 and_false : (a : Bool) → (a && false) ≡ false
 and_false true = refl
@@ -53,6 +34,3 @@ all_below-fails passes k (suc n) lt e =
       | true ↦ λ same. let is : k ≡ n = grind (arith, common_steps) in and_last (all_below passes n) (passes n) (ap passes (sym is) ∙ e)
       | false ↦ λ other. let less : k < n = grind (arith, common_steps) in rw (all_below-fails passes k n less e) refl
     ] refl
-
-pub all_below-more : (passes : ℕ → Bool) (k : ℕ) → all_below passes k ≡ true → passes k ≡ true → all_below passes (k + 1) ≡ true
-all_below-more passes k all e = let next : k + 1 ≡ suc k = omega arith in rw (next, all, e) refl

@@ -1,5 +1,5 @@
 -- A segment is opened by the packets of a run, one after another.
-use Rattle.std.proofs.Common.{ℕ, ◌≡◌, ◌+◌, ◌≤◌, ◌<◌, ◌^◌, true, false, refl, sym, ap, subst, ◌∙◌, List, [], ◌∷◌, ◌++◌, append_assoc, append-nil, length-append, drop, Option, None, Some, arith, length, min}
+use Rattle.std.proofs.Common.{ℕ, ◌≡◌, ◌+◌, ◌≤◌, ◌<◌, ◌^◌, true, false, refl, sym, ap, subst, ◌∙◌, List, [], ◌∷◌, ◌++◌, append_assoc, length-append, drop, Option, None, Some, arith, length, min}
 use Rattle.std.specs.Prelude.{is_some, unwrap_or, option_map, slice_get}
 use Rattle.std.specs.FinMap as map
 use Rattle.std.proofs.lemmas.Grind.{common_steps}
@@ -12,12 +12,11 @@ use Rattle.jitter_model.proofs.Giving.{is_some-found}
 use Rattle.jitter_model.proofs.Numbered.{IsRun, IsOpened, opened_run, run_rest, above_has}
 use Rattle.jitter_core.specs.declared.state.State.{State}
 use Rattle.jitter_core.specs.Asides.{newest_first}
-use Rattle.jitter_core.specs.Steps.{IsBounded, CanAccept, Accepts, LeavesSegment, state_number}
-use Rattle.jitter_core.specs.Pushing.{IsOpenedBy, Opening}
+use Rattle.jitter_core.specs.Steps.{IsBounded, CanAccept, Accepts, state_number}
+use Rattle.jitter_core.specs.Pushing.{IsOpenedBy}
 use Rattle.jitter_core.proofs.Accepting.{placed_accept, clocked_accept, marked_accept}
 use Rattle.jitter_core.proofs.Asides.{run_end}
 use Rattle.jitter_core.proofs.Bounds.{opened_segment, segment_bounded}
-use Rattle.jitter_core.proofs.Pushes.{HasSegment, leaves}
 
 -- ---- what the next packet of a run finds
 
@@ -27,9 +26,6 @@ none_of (Some x) e = cc
 
 not_full : (t l : Option ℕ) (first count n : ℕ) → t ≡ Some (first + count) → l ≡ Some first → count ≤ 4 → n ≡ first + count + 1 → is_full t l None n ≡ false
 not_full t l first count n et el few en = rw (et, el, en) (grind (arith, common_steps))
-
-not_full_first : (n : ℕ) → is_full None None None n ≡ false
-not_full_first n = refl
 
 -- the first number stays
 first_same : (done : List Arrival) (d a : Arrival) (x : IsOpened done d) (y : IsOpened (d ∷ done) a) → y.first ≡ x.first
@@ -75,15 +71,6 @@ next_opened old new done a o same r =
       clocked = clocked_accept old new (opened done) None a same o.placed.top_is o.clocked o.marked r;
       marked = marked_accept old new (opened done) None a same o.placed.next_is o.placed.top_is o.clocked o.marked r;
     }
-
--- what is opened does not depend on the packets that are put aside
-pub opened_same : (old new : State) (done : List Arrival) → new.settings ≡ old.settings → LeavesSegment old new → IsOpenedBy old done → IsOpenedBy new done
-opened_same old new done same l o =
-    let g : HasSegment new (opened done) None (λ q. false) = leaves old new (opened done) None (λ q. false) same l o.placed o.clocked o.marked in
-    record { placed = g.placed; clocked = g.clocked; marked = g.marked }
-
-pub begin_opening : (s : State) (all : List Arrival) → IsOpenedBy s [] → newest_first s.aside ≡ all → Opening s s.aside all
-begin_opening s all o e = record { done = []; by = o; splits = append-nil (newest_first s.aside) ∙ e }
 
 -- the packets that are left, one fewer, and those that are done, one more
 pub one_less : (x : ℕ × Arrival) (xs : List (ℕ × Arrival)) (done all : List Arrival) → newest_first (x ∷ xs) ++ done ≡ all → newest_first xs ++ x.1 ∷ done ≡ all

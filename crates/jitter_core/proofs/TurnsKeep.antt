@@ -25,14 +25,14 @@ use Rattle.jitter_model.proofs.Numbered.{IsDistinct, distinct}
 use Rattle.jitter_core.specs.declared.state.Progress.{Progress}
 use Rattle.jitter_core.specs.declared.state.Span.{Span}
 use Rattle.jitter_core.specs.declared.state.State.{State}
-use Rattle.jitter_core.specs.Marks.{kept}
+use Rattle.jitter_core.specs.Marks.{kept_two}
 use Rattle.jitter_core.specs.Parts.{Placed, Clocked, Marked}
 use Rattle.jitter_core.specs.Steps.{LeavesSegment, IsSame}
 use Rattle.jitter_core.specs.Turning.{state_sight, plain_turn, Gives, Loses, TurnDoes}
 use Rattle.jitter_core.specs.Stands.{live, live_next, live_out, StandsFor}
 use Rattle.jitter_core.proofs.Agreeing.{turn_is, flushing_turn}
 use Rattle.jitter_core.proofs.Judging.{placed_now, clocked_now, marked_now, not_out}
-use Rattle.jitter_core.proofs.Kept.{IsBelow, kept_kept}
+use Rattle.jitter_core.proofs.Kept.{IsBelow, two_two}
 use Rattle.jitter_core.proofs.Pushes.{HasSegment, leaves}
 
 -- ---- quiet turns
@@ -175,8 +175,8 @@ gives_keeps old new h n pts p st e is d =
       clocked = record { rate_is = rw (d.skew, d.settings) c.rate_is; mode_is = rw (d.skew, d.settings) c.mode_is; stands = rw d.skew c.stands };
       marked = record {
         first_is = ap (λ (x : Span). x.first_pts) d.span ∙ rw d.settings m.first_is;
-        marks_are = subst (λ (x : Settings). new.heights ≡ kept (Some (n + 1)) (marks x (accepted h))) (sym d.settings)
-            (d.heights ∙ ap (kept (Some (n + 1))) m.marks_are ∙ kept_kept (next h) (n + 1) (marks old.settings (accepted h)) (covers_below (sight old.settings h) (next h) n pts p cover));
+        marks_are = subst (λ (x : Settings). new.heights ≡ kept_two (Some (n + 1)) (marks x (accepted h))) (sym d.settings)
+            (d.heights ∙ ap (kept_two (Some (n + 1))) m.marks_are ∙ two_two (next h) (n + 1) (marks old.settings (accepted h)) (covers_below (sight old.settings h) (next h) n pts p cover));
       };
     }
 
@@ -197,8 +197,8 @@ loses_keeps old new h n count pts e st f is d =
       clocked = record { rate_is = rw (d.skew, d.settings) c.rate_is; mode_is = rw (d.skew, d.settings) c.mode_is; stands = rw d.skew c.stands };
       marked = record {
         first_is = ap (λ (x : Span). x.first_pts) d.span ∙ rw d.settings m.first_is;
-        marks_are = subst (λ (x : Settings). new.heights ≡ kept (Some (n + count)) (marks x (accepted h))) (sym d.settings)
-            (d.heights ∙ ap (kept (Some (n + count))) m.marks_are ∙ kept_kept (next h) (n + count) (marks old.settings (accepted h)) (loses_below (sight old.settings h) (next h) n count pts e cover));
+        marks_are = subst (λ (x : Settings). new.heights ≡ kept_two (Some (n + count)) (marks x (accepted h))) (sym d.settings)
+            (d.heights ∙ ap (kept_two (Some (n + count))) m.marks_are ∙ two_two (next h) (n + count) (marks old.settings (accepted h)) (loses_below (sight old.settings h) (next h) n count pts e cover));
       };
     }
 

@@ -13,10 +13,20 @@ abbrev pub kept : Option ℕ → List Mark → List Mark
 kept next [] = []
 kept next (m ∷ ms) = from_mark next m (kept next ms)
 
+-- the greatest height, and of those before it the ones down to the first that isn't above the next number: so the last two are always there
+abbrev pub kept_two : Option ℕ → List Mark → List Mark
+kept_two next [] = []
+kept_two next (m ∷ ms) = m ∷ kept next ms
+
+-- these heights once they are all before another one
+abbrev pub before_another : Option ℕ → List Mark → List Mark
+before_another next [] = []
+before_another next (m ∷ ms) = from_mark next m ms
+
 -- the heights after one more packet, which may be one
 abbrev pub with_mark : Option ℕ → Option Mark → List Mark → List Mark
 with_mark next None ms = ms
-with_mark next (Some m) ms = from_mark next m ms
+with_mark next (Some m) ms = m ∷ before_another next ms
 
 -- whether a number is one above the latest of these heights
 abbrev pub is_next_mark : List Mark → ℕ → Bool

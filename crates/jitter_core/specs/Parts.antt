@@ -6,7 +6,7 @@ use Rattle.jitter_model.specs.Accepted.{Taken, top, least}
 use Rattle.jitter_model.specs.Covered.{count_in}
 use Rattle.jitter_model.specs.Times.{heights, skew_heights, marks, found, first_pts}
 use Rattle.jitter_core.specs.declared.state.State.{State}
-use Rattle.jitter_core.specs.Marks.{kept}
+use Rattle.jitter_core.specs.Marks.{kept_two}
 
 -- the numbers, and the held packets, each with its presentation time
 pub record Placed (s : State) (ps : List Taken) (next : Option ℕ) (out : ℕ → Bool) : Type 0 where
@@ -22,7 +22,7 @@ pub record Clocked (s : State) (ps : List Taken) : Type 0 where
   pub mode_is : s.skew.mode ≡ s.settings.mode
   pub stands : StandsFor s.skew (skew_heights (heights ps))
 
--- the time of the first packet, and the heights from the greatest one that isn't above the next number, each with its time
+-- the time of the first packet, the heights from the greatest one that isn't above the next number, and the last two heights, each with its time
 pub record Marked (s : State) (ps : List Taken) (next : Option ℕ) : Type 0 where
   pub first_is : s.span.first_pts ≡ first_pts s.settings ps
-  pub marks_are : s.heights ≡ kept next (marks s.settings ps)
+  pub marks_are : s.heights ≡ kept_two next (marks s.settings ps)

@@ -46,7 +46,7 @@ pub record Order (s : State) (h : History) : Type 0 where
 pub record Skew (s : State) (h : History) : Type 0 where
   pub clocked : Clocked s (live h)
 
--- the time of the segment's first packet, and the heights from the greatest one that isn't above the next number, each with its time
+-- the time of the segment's first packet, the heights from the greatest one that isn't above the next number, and the last two heights, each with its time
 pub record Times (s : State) (h : History) : Type 0 where
   pub marked : Marked s (live h) (live_next h)
 

@@ -7,7 +7,7 @@ use Rattle.jitter_model.specs.History.{is_pusher, all_below, pusher_count}
 use Rattle.jitter_model.specs.Requests.{lesser, later}
 use Rattle.jitter_model.specs.Turns.{Sight, low, loss_end, may_give, is_lost, is_done, output_wake, packet_turn, lost_turn, left_by}
 use Rattle.jitter_core.specs.declared.state.State.{State}
-use Rattle.jitter_core.specs.Marks.{kept}
+use Rattle.jitter_core.specs.Marks.{kept_two}
 use Rattle.jitter_core.specs.Steps.{LeavesSegment, IsSame}
 
 -- whether each pusher of the set ended, by these marks
@@ -58,7 +58,7 @@ pub record Gives (old new : State) (n : ℕ) : Type 0 where
   pub span : new.span ≡ record old.span { next = Some (n + 1); held = old.span.held - 1 }
   pub held : new.held ≡ map.remove old.held n
   pub skew : new.skew ≡ old.skew
-  pub heights : new.heights ≡ kept (Some (n + 1)) old.heights
+  pub heights : new.heights ≡ kept_two (Some (n + 1)) old.heights
 
 -- the numbers up to m were given up
 pub record Loses (old new : State) (m : ℕ) : Type 0 where
@@ -68,7 +68,7 @@ pub record Loses (old new : State) (m : ℕ) : Type 0 where
   pub span : new.span ≡ record old.span { next = Some m }
   pub held : new.held ≡ old.held
   pub skew : new.skew ≡ old.skew
-  pub heights : new.heights ≡ kept (Some m) old.heights
+  pub heights : new.heights ≡ kept_two (Some m) old.heights
 
 -- the end was told
 pub record TellsEnd (old new : State) : Type 0 where

@@ -1,10 +1,10 @@
 //! The heights that a buffer keeps, and the expected times by them.
 
-ghost use Rattle.std.specs.Prelude.{◌≡◌, ◌<◌, ◌≤◌, ◌^◌, ◌+◌, ◌*◌, Some, None, pos, negsuc, ◌+ℤ◌, ◌-ℤ◌, ◌*ℤ◌, ◌≤ℤ◌, int_div, length, [], IfOk, List};
-ghost use Rattle.std.specs.VecDeque.{deque_capacity};
+ghost use Rattle.std.specs.Prelude.{◌≡◌, ◌<◌, ◌≤◌, ◌^◌, ◌+◌, ◌*◌, Some, None, pos, negsuc, ◌+ℤ◌, ◌-ℤ◌, ◌*ℤ◌, ◌≤ℤ◌, int_div, length, [], ◌∷◌, IfOk, List};
+ghost use Rattle.std.specs.VecDeque.{deque_len, deque_capacity};
 ghost use Rattle.jitter_model.specs.Times.{expected, between};
 ghost use Rattle.rtp_units.specs.Numbers.{hold};
-ghost use Rattle.jitter_core.specs.Marks.{kept, from_mark, is_next_mark, AreMarksBounded};
+ghost use Rattle.jitter_core.specs.Marks.{kept_two, before_another, is_next_mark, AreMarksBounded};
 
 use jitter_model::Mark;
 use rtp_units::{OutOfMemory, held_to_time};
@@ -101,12 +101,27 @@ fn expected_by(marks: &VecDeque<Mark>, n: u64) -> u64
     }
 }
 
-/// Drops the heights that no number from `next` on needs.
-fn prune_to(marks: &mut VecDeque<Mark>, next: u64)
-    ensures items { marks.new.items ≡ kept (Some next) marks.old.items }
+/// Drops all heights but the latest where that one isn't above `next`.
+fn cut_to(marks: &mut VecDeque<Mark>, next: u64)
+    ensures items { marks.new.items ≡ before_another (Some next) marks.old.items }
+    ensures len { deque_len marks.new ≤ deque_len marks.old }
     ensures capacity { deque_capacity marks.new ≡ deque_capacity marks.old }
 {
-    for i in 0..marks.len() {
+    let is_past = match marks.front() {
+        None => false,
+        Some(latest) => latest.number <= next,
+    };
+    if is_past {
+        marks.truncate(1);
+    }
+}
+
+/// Drops the heights that no number from `next` on needs, but for the last two.
+fn prune_to(marks: &mut VecDeque<Mark>, next: u64)
+    ensures items { marks.new.items ≡ kept_two (Some next) marks.old.items }
+    ensures capacity { deque_capacity marks.new ≡ deque_capacity marks.old }
+{
+    for i in 1..marks.len() {
         if marks[i].number <= next {
             marks.truncate(i + 1);
             return;
@@ -127,14 +142,12 @@ impl Heights {
     /// Puts a height above all others in, and drops those that no number from `next` on needs.
     pub fn add(&mut self, next: Option<u64>, mark: Mark)
         requires { length self.old ≤ 8192 }
-        ensures { self.new ≡ from_mark next mark self.old }
+        ensures { self.new ≡ mark ∷ before_another next self.old }
     {
-        self.marks.push_front_reserved(mark);
         if let Some(next) = next {
-            if mark.number <= next {
-                self.marks.truncate(1);
-            }
+            cut_to(&mut self.marks, next);
         }
+        self.marks.push_front_reserved(mark);
     }
 
     /// Whether a number is one above the latest height.
@@ -157,9 +170,9 @@ impl Heights {
         expected_by(&self.marks, n)
     }
 
-    /// Drops the heights that no number from `next` on needs.
+    /// Drops the heights that no number from `next` on needs, but for the last two.
     pub fn prune(&mut self, next: u64)
-        ensures { self.new ≡ kept (Some next) self.old }
+        ensures { self.new ≡ kept_two (Some next) self.old }
     {
         prune_to(&mut self.marks, next);
     }

@@ -3,8 +3,8 @@ ghost use Rattle.std.specs.Prelude.{◌↔◌, IsTrue};
 ghost use Rattle.packet_store.specs.Far.{IsFar};
 
 /// Whether an extended sequence number is far from `top`, the greatest that came: more than `dropout` ahead of it, or more
-/// than `misorder` behind it and not below `next`, the first that isn't output yet. Where nothing was output `next` is
-/// `None`, and every number so far behind is far.
+/// than `misorder` behind it and below `next`, the first that isn't output yet. Where nothing was output `next` is `None`,
+/// and every number so far behind is far.
 pub fn far(top: u64, next: Option<u64>, number: u64, dropout: u16, misorder: u16) -> bool
     ensures { IsTrue result ↔ IsFar top next number dropout misorder }
 {
