@@ -2,3 +2,4 @@ pub mod Counting
 pub mod Sources
 pub mod Table
 pub mod History
+pub mod Probation
