@@ -66,3 +66,7 @@ alone probation ssrc (call ∷ before) = alone_next probation ssrc (alone probat
 -- What is kept of a source is what the calls on it alone leave, whatever calls on others came between.
 abbrev pub IsIsolated : Type 0
 IsIsolated = (own probation : ℕ) (calls : List Call) (t : Table) → StandsFor own probation calls t → (ssrc : ℕ) → kept t ssrc ≡ alone probation ssrc calls
+
+-- A table stands for a list of calls with one more, where that call led to it.
+abbrev pub GoesOn : Type 0
+GoesOn = (own probation : ℕ) (calls : List Call) (old new : Table) (call : Call) → StandsFor own probation calls old → Leads old call new → StandsFor own probation (call ∷ calls) new
