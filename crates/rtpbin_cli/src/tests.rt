@@ -237,19 +237,19 @@ fn failures(rt: HostRuntime) -> Result<(), Fail> {
         assert_eq!(rt; size, front, "write {write}");
         assert!(rt; is_front, "write {write}");
     }
-    let mut done = 0;
+    let mut done = false;
     for call in 1..=12 {
         let (status, size, is_front) = run_failing(alloc, call, 0, 10_000)?;
         assert!(rt; is_front, "call {call}");
         if status == Status::Done {
-            done += 1;
+            done = true;
             assert_eq!(rt; size, STEADY_LOG.len(), "call {call}");
         } else {
             assert_eq!(rt; status, Status::Read, "call {call}");
-            assert!(rt; done == 0, "call {call}");
+            assert!(rt; !done, "call {call}");
         }
     }
-    assert!(rt; done > 0);
+    assert!(rt; done);
     let (status, size, is_front) = run_failing(alloc, 0, 0, 1)?;
     assert!(rt; status == Status::Done && size == STEADY_LOG.len() && is_front);
     Ok(())
