@@ -1,4 +1,6 @@
 //! The packets of a compound.
+ghost use Rattle.std.specs.Prelude.{◌≡◌};
+ghost use Rattle.rtcp_wire.specs.Written.{kind_byte};
 
 use crate::block::ReportBlock;
 use crate::items::Items;
@@ -83,4 +85,21 @@ pub enum Rtcp {
         count: u8,
         rest: Blob,
     },
+}
+
+impl Rtcp {
+    /// The packet's type.
+    pub fn kind(&self) -> u8
+        ensures { result ≡ kind_byte self.now }
+    {
+        match self {
+            Rtcp::Sr { .. } => 200,
+            Rtcp::Rr { .. } => 201,
+            Rtcp::Sdes { .. } => 202,
+            Rtcp::Bye { .. } => 203,
+            Rtcp::App { .. } => 204,
+            Rtcp::Nacks { .. } => 205,
+            Rtcp::Feedback { kind, .. } | Rtcp::Unknown { kind, .. } => *kind,
+        }
+    }
 }

@@ -2,7 +2,7 @@
 ghost use Rattle.std.specs.Prelude.{◌≡◌, ◌≤◌, ◌++◌, Ok, IfOk, OnOk};
 ghost use Rattle.std.specs.List.{AllByRecursion};
 ghost use Rattle.rtcp_wire.specs.Compound.{compound_of};
-ghost use Rattle.rtcp_wire.specs.Written.{body_bytes, kind_byte, count_bits, packet_bytes, compound_bytes, BodyFits, PacketFits, IsWritable, InRange};
+ghost use Rattle.rtcp_wire.specs.Written.{body_bytes, count_bits, packet_bytes, compound_bytes, BodyFits, PacketFits, IsWritable, InRange};
 
 use crate::packet::Rtcp;
 use crate::pieces::{
@@ -47,23 +47,9 @@ fn push_packet(out: &mut Vec<u8>, packet: &Rtcp, body: &[u8]) -> Result<(), OutO
     ensures { OnOk result (out.new.items ≡ out.old.items ++ packet_bytes packet.now) }
 {
     out.push(VERSION_BITS + count(packet))?;
-    out.push(kind(packet))?;
+    out.push(packet.kind())?;
     push_u16(out, (body.len() / 4) as u16)?;
     push_bytes(out, body)
-}
-
-fn kind(packet: &Rtcp) -> u8
-    ensures { result ≡ kind_byte packet.now }
-{
-    match packet {
-        Rtcp::Sr { .. } => 200,
-        Rtcp::Rr { .. } => 201,
-        Rtcp::Sdes { .. } => 202,
-        Rtcp::Bye { .. } => 203,
-        Rtcp::App { .. } => 204,
-        Rtcp::Nacks { .. } => 205,
-        Rtcp::Feedback { kind, .. } | Rtcp::Unknown { kind, .. } => *kind,
-    }
 }
 
 /// The low five bits of the first byte.

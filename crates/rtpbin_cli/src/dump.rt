@@ -125,23 +125,11 @@ fn types_of(alloc: Global, packets: &[Rtcp]) -> Result<String, OutOfMemory> {
         if i > 0 {
             text.push_str(",")?;
         }
-        let kind = type_of(packet);
+        let kind = packet.kind();
         let digits = format!(in alloc; "{kind}")?;
         text.push_str(digits.as_str())?;
     }
     Ok(text)
-}
-
-fn type_of(packet: &Rtcp) -> u8 {
-    match packet {
-        Rtcp::Sr { .. } => 200,
-        Rtcp::Rr { .. } => 201,
-        Rtcp::Sdes { .. } => 202,
-        Rtcp::Bye { .. } => 203,
-        Rtcp::App { .. } => 204,
-        Rtcp::Nacks { .. } => 205,
-        Rtcp::Feedback { kind, .. } | Rtcp::Unknown { kind, .. } => *kind,
-    }
 }
 
 // RFC 5761, section 4: the second byte of an RTCP packet is its type, from 192 to 223.
