@@ -1,0 +1,13 @@
+pub mod FirstLine
+pub mod BoolLemmas
+pub mod LookupLemmas
+pub mod NumberLemmas
+pub mod TextLemmas
+pub mod PassLemmas
+pub mod FlushLemmas
+pub mod SoundLemmas
+pub mod FitsLemmas
+pub mod GrammarLemmas
+pub mod WordLemmas
+pub mod EntryLemmas
+pub mod RoundLemmas

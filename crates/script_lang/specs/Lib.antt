@@ -1,0 +1,13 @@
+pub mod Causes
+pub mod Text
+pub mod Numbers
+pub mod Forms
+pub mod Settings
+pub mod Entries
+pub mod Facts
+pub mod Tests
+pub mod Contents
+pub mod Grammar
+pub mod Written
+pub mod Reading
+pub mod Sound
