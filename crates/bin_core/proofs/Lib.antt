@@ -1,0 +1,9 @@
+pub mod Outcomes
+pub mod Totals
+pub mod Tallying
+pub mod Settling
+pub mod Entering
+pub mod Serving
+pub mod Staging
+pub mod Fronting
+pub mod Binding

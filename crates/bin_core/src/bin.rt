@@ -1,5 +1,7 @@
 //! The bin: records in order of time, and wakes between them.
-ghost use Rattle.std.specs.Prelude.{◌≡◌, ◌<◌, ◌≤◌, ◌+◌, ◌^◌};
+ghost use Rattle.std.specs.Prelude.{◌≡◌, ◌<◌, ◌≤◌, ◌+◌, ◌^◌, List, [], OnOk};
+ghost use Rattle.jitter_model.specs.declared.Settings.{Settings as SettingsOf};
+ghost use Rattle.log_model.specs.Times.{Timed};
 ghost use Rattle.bin_core.specs.Stages.{IsOneSession, pushers_in, pushes_in};
 
 use crate::stage::{Stage, finish, take_record};
@@ -13,6 +15,10 @@ use timeline::Lines;
 pub const MAX_RECORDS: u64 = 100_000_000;
 
 /// One session with at most one source: the first that sends a packet of the session.
+///
+/// A bin stands for the list of the records that it has taken, each at its time, and each call adds the
+/// lines that the log of `log_model` has next. After want of memory it stands for no list: later calls are
+/// safe, and nothing is said of their lines.
 #[derive(Drop)]
 pub struct Bin {
     stage: Stage,
@@ -23,12 +29,14 @@ pub struct Bin {
 
 impl Bin {
     ghost use Rattle.bin_core.specs.Words.{records_of, time_of};
+    ghost use Rattle.bin_core.specs.Bins.{BinStands, TakesOn, Completes, timed};
 
     /// A bin before any record.
     pub fn new(settings: &Settings) -> Bin
         requires { IsOneSession settings.now }
         ensures records { records_of result ≡ 0 }
         ensures time { time_of result ≡ 0 }
+        ensures stands { BinStands settings.now result [] }
     {
         Bin {
             stage: Stage {
@@ -71,12 +79,15 @@ impl Bin {
         requires small { time < 2 ^ 63 }
         ensures records { records_of self.new ≡ n }
         ensures time { time_of self.new ≡ time }
+        ensures stands { OnOk result ((s : SettingsOf) (seen : List Timed) → BinStands s self.old seen → TakesOn s seen (timed time link rec.now) lines.old lines.new self.new) }
     {
         take_record(&mut self.stage, alloc, n, time, link, rec, lines)
     }
 
     /// Serves the wakes that are left, ends the lane and adds the last line.
-    pub fn finish(&mut self, lines: &mut Lines) -> Result<(), OutOfMemory> {
+    pub fn finish(&mut self, lines: &mut Lines) -> Result<(), OutOfMemory>
+        ensures { OnOk result ((s : SettingsOf) (seen : List Timed) → BinStands s self.old seen → Completes s seen lines.old lines.new) }
+    {
         finish(&mut self.stage, lines)
     }
 }

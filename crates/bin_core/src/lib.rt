@@ -3,8 +3,11 @@
 #![tactic(auto)]
 
 mod bin;
+mod counted;
+mod counting;
 mod front;
 mod lane;
+mod replies;
 mod stage;
 
 pub use bin::{Bin, MAX_RECORDS};

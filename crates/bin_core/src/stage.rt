@@ -1,20 +1,29 @@
 //! What a bin keeps, and how it goes on.
-ghost use Rattle.std.specs.Prelude.{◌≡◌, ◌<◌, ◌≤◌, ◌+◌, ◌^◌, IfOk};
-ghost use Rattle.jitter_model.specs.Runs.{IsValid};
-ghost use Rattle.jitter_core.specs.Stands.{IsBuilt};
+ghost use Rattle.std.specs.Prelude.{◌≡◌, ◌<◌, ◌≤◌, ◌+◌, ◌^◌, ◌∷◌, List, Option, Some, None, IfOk, OnOk, length};
+ghost use Rattle.pcap_file.specs.Reading.{record_view};
+ghost use Rattle.jitter_model.specs.declared.Settings.{Settings as SettingsOf};
 ghost use Rattle.jitter_core.specs.Words.{pushes_of, settings_of};
+ghost use Rattle.timeline.specs.declared.line.BinLine.TheVariants.{Skip};
+ghost use Rattle.log_model.specs.declared.Source.{Source as SourceOf};
+ghost use Rattle.log_model.specs.Times.{Timed};
+ghost use Rattle.log_model.specs.Front.{heard_of, first_known, source_of, opening, brings};
+ghost use Rattle.log_model.specs.Events.{Timeline, latest};
+ghost use Rattle.log_model.specs.Waking.{served, all_ended};
+ghost use Rattle.log_model.specs.Log.{all_told, with_brought};
 ghost use Rattle.bin_core.specs.Stages.{IsOneSession, pushers_in, pushes_in};
+ghost use Rattle.bin_core.specs.Lanes.{Base, LaneTells};
+ghost use Rattle.bin_core.specs.Bins.{timed, StandsFor};
+ghost use Rattle.bin_core.specs.Staging.{TellsNoLane, LanesTell, LanesServed, StageTakes, StageEnds, lanes_of, given, is_of as is_of_lane, done_of};
 
-use crate::front::{Heard, PAYLOAD_TYPE, Source, hear};
-use crate::lane::{Counts, Lane, SESSION, end, serve, take};
+use crate::counted::{Counts, Lane};
+use crate::front::{hear, is_same_source};
+use crate::lane::{end, serve, take};
 use jitter_core::{Buffer, Packet, Settings};
+use log_model::{END_OF_TIME, Heard, PAYLOAD_TYPE, SESSION, Source};
 use pcap_file::PcapRecord;
 use rtp_units::OutOfMemory;
 use std::alloc::Global;
 use timeline::{BinLine, Lines, Word};
-
-/// Later than every wake: a presentation time is below 2^63 nanoseconds, a latency at most 600 seconds.
-const END_OF_TIME: u64 = 9_224_497_936_761_618_431;
 
 /// The settings, the lane once there is one, the number of records and the greatest time.
 #[derive(Drop)]
@@ -46,11 +55,37 @@ pub fn take_record(
     ensures room { pushes_in stage.new.lane ≤ stage.new.records }
     ensures records { stage.new.records ≡ n }
     ensures time { stage.new.time ≡ time }
+    ensures stands { OnOk result ((s : SettingsOf) (older : List Timed) → StandsFor s stage.old older → stage.old.time ≤ time → StageTakes s older (timed time link rec.now) lines.old lines.new stage.new) }
 {
+    let before = stage.time;
     stage.records = n;
     stage.time = time;
-    serve_wakes(&mut stage.lane, time, time, lines)?;
-    match hear(alloc, link, rec)? {
+    serve_wakes(&mut stage.lane, time, before, lines)?;
+    let heard = hear(alloc, link, rec)?;
+    take_heard(stage, alloc, heard, lines)
+}
+
+// Takes what a record brings, at the stage's time. Wakes were served before.
+fn take_heard(
+    stage: &mut Stage,
+    alloc: Global,
+    heard: Heard,
+    lines: &mut Lines,
+) -> Result<(), OutOfMemory>
+    requires settings { IsOneSession stage.old.settings }
+    requires pushers { pushers_in stage.old.lane ≡ 257 }
+    requires few { pushes_in stage.old.lane < 2 ^ 31 }
+    requires time { stage.old.time < 2 ^ 63 }
+    ensures settings { stage.new.settings ≡ stage.old.settings }
+    ensures records { stage.new.records ≡ stage.old.records }
+    ensures time { stage.new.time ≡ stage.old.time }
+    ensures pushers { pushers_in stage.new.lane ≡ 257 }
+    ensures count { pushes_in stage.new.lane ≤ pushes_in stage.old.lane + 1 }
+    ensures stands { OnOk result ((s : SettingsOf) (base : Base) (older : List Timed) (r : Timed) (tl : Timeline) → stage.old.settings ≡ s → stage.old.records ≡ length older + 1 → stage.old.time ≡ r.time → heard ≡ heard_of r.captured → LanesTell s base stage.old.lane (source_of older) lines.old tl → LanesTell s base stage.new.lane (source_of (r ∷ older)) lines.new (with_brought s r.time (brings s older r) tl)) }
+{
+    let time = stage.time;
+    let n = stage.records;
+    match heard {
         Heard::Packet(source, packet) if is_of(&stage.lane, &source) => {
             let settings = stage.settings;
             take_packet(
@@ -74,19 +109,23 @@ pub fn take_record(
     }
 }
 
-fn skip_line(time: u64, record: u64, reason: Word) -> BinLine {
+fn skip_line(time: u64, n: u64, reason: Word) -> BinLine
+    ensures { result ≡ Skip time n reason }
+{
     BinLine::Skip {
         time,
-        record,
+        record: n,
         reason,
     }
 }
 
 // Whether the lane is this source's, or there is none yet.
-fn is_of(lane: &Option<Lane>, source: &Source) -> bool {
+fn is_of(lane: &Option<Lane>, source: &Source) -> bool
+    ensures { result ≡ is_of_lane lane.now source.now }
+{
     match lane {
         None => true,
-        Some(lane) => lane.source == *source,
+        Some(lane) => is_same_source(&lane.source, source),
     }
 }
 
@@ -106,6 +145,7 @@ fn take_packet(
     requires time { time < 2 ^ 63 }
     ensures pushers { pushers_in lane.new ≡ 257 }
     ensures count { pushes_in lane.new ≤ pushes_in lane.old + 1 }
+    ensures stands { OnOk result ((s : SettingsOf) (base : Base) (kept : Option SourceOf) (tl : Timeline) → settings.now ≡ s → LanesTell s base lane.old kept lines.old tl → LanesTell s base lane.new (first_known kept (Some source)) lines.new (with_brought s time (given s time kept source packet) tl)) }
 {
     match lane {
         Some(lane) => take(lane, time, packet, lines),
@@ -129,6 +169,8 @@ fn make_lane(
     requires settings { IsOneSession settings.now }
     ensures fresh { IfOk result (λ lane. pushes_of lane.buffer ≡ 0) }
     ensures pushers { IfOk result (λ lane. (settings_of lane.buffer).pushers ≡ 257) }
+    ensures source { IfOk result (λ lane. lane.source ≡ source) }
+    ensures stands { IfOk result (λ lane. (s : SettingsOf) (base : Base) (tl : Timeline) → settings.now ≡ s → TellsNoLane base None lines.old tl → LaneTells s base 0 lane lines.new (all_told time (opening s time None source) tl)) }
 {
     lines.push(BinLine::Pt {
         time,
@@ -156,7 +198,8 @@ fn make_lane(
     })
 }
 
-// Serves the lane's wakes up to a time, and answers the last one, or `before` where there is none.
+// Serves the lane's wakes up to a time, and answers the last one, or `before` where there is none that is
+// later.
 fn serve_wakes(
     lane: &mut Option<Lane>,
     limit: u64,
@@ -166,10 +209,24 @@ fn serve_wakes(
     requires limit { limit < 2 ^ 63 + 2 ^ 50 }
     ensures pushers { pushers_in lane.new ≡ pushers_in lane.old }
     ensures count { pushes_in lane.new ≡ pushes_in lane.old }
+    ensures stands { IfOk result (λ last. (s : SettingsOf) (base : Base) (kept : Option SourceOf) (tl : Timeline) → LanesTell s base lane.old kept lines.old tl → before ≡ latest tl → LanesServed s base lane.new kept last lines.new (served s (lanes_of kept) limit tl)) }
 {
     match lane {
         Some(lane) => serve(lane, limit, before, lines),
         None => Ok(before),
+    }
+}
+
+// Ends the lane, if there is one.
+fn end_lane(lane: &mut Option<Lane>, time: u64, lines: &mut Lines) -> Result<(), OutOfMemory>
+    requires pushers { pushers_in lane.old ≡ 257 }
+    ensures pushers { pushers_in lane.new ≡ pushers_in lane.old }
+    ensures count { pushes_in lane.new ≡ pushes_in lane.old }
+    ensures stands { OnOk result ((s : SettingsOf) (base : Base) (kept : Option SourceOf) (tl : Timeline) → LanesTell s base lane.old kept lines.old tl → LanesTell s base lane.new kept lines.new (all_ended s time (lanes_of kept) tl)) }
+{
+    match lane {
+        Some(lane) => end(lane, time, lines),
+        None => Ok(()),
     }
 }
 
@@ -180,15 +237,16 @@ pub fn finish(stage: &mut Stage, lines: &mut Lines) -> Result<(), OutOfMemory>
     ensures settings { stage.new.settings ≡ stage.old.settings }
     ensures room { pushes_in stage.new.lane ≡ pushes_in stage.old.lane }
     ensures records { stage.new.records ≡ stage.old.records }
+    ensures stands { OnOk result ((s : SettingsOf) (rs : List Timed) → StandsFor s stage.old rs → StageEnds s rs lines.old lines.new) }
 {
     let last = serve_wakes(&mut stage.lane, END_OF_TIME, stage.time, lines)?;
-    if let Some(lane) = &mut stage.lane {
-        end(lane, last, lines)?;
-    }
+    end_lane(&mut stage.lane, last, lines)?;
     lines.push(done_line(&stage.lane, stage.records))
 }
 
-fn done_line(lane: &Option<Lane>, records: u64) -> BinLine {
+fn done_line(lane: &Option<Lane>, records: u64) -> BinLine
+    ensures { result ≡ done_of lane.now records }
+{
     match lane {
         None => BinLine::Done {
             records,

@@ -18,9 +18,12 @@ use Rattle.jitter_model.specs.Times.{is_height, heights, is_next_height, height_
 use Rattle.jitter_core.specs.declared.state.Span.{Span}
 use Rattle.jitter_core.specs.declared.state.State.{State}
 use Rattle.jitter_core.specs.Marks.{kept_two, with_mark, is_next_mark}
-use Rattle.jitter_core.specs.Parts.{Placed, Clocked, Marked}
+use Rattle.jitter_core.specs.Parts.{Placed, Clocked, Marked, Requested}
 use Rattle.jitter_core.specs.Steps.{Accepts, is_height_by, heights_after, time_after, mark_with, state_number}
 use Rattle.jitter_core.proofs.Kept.{is_next_is, two_after}
+use Rattle.jitter_core.specs.declared.peaks.Peak.{Peak}
+use Rattle.jitter_core.specs.Peaks.{with_peak}
+use Rattle.jitter_core.proofs.Firsts.{with_peak_is}
 use Rattle.jitter_core.proofs.Rooted.{no_heights}
 
 -- the packet that is accepted, with its number
@@ -145,4 +148,18 @@ marked_accept old new ps o a same nx t c m r =
           ∙ ap (λ (x : Option ℕ). with_mark x (mark_with (top ps) a (number_from (top ps) a.packet.seq) (pts_after old.settings ps (taken ps a))) old.heights) nx
           ∙ ap (λ (ms : List Mark). with_mark o (mark_with (top ps) a (number_from (top ps) a.packet.seq) (pts_after old.settings ps (taken ps a))) ms) m.marks_are
           ∙ marks_after old.settings o ps (taken ps a));
+    }
+
+-- ---- the requests
+
+pub requested_accept : (old new : State) (ps : List Taken) (o : Option ℕ) (served : ℕ → ℕ) (a : Arrival) → old.span.next ≡ o → old.span.top ≡ top ps → Requested old ps o served → Accepts old new a (state_number old a) → Requested new (with_taken ps a) o served
+requested_accept old new ps o served a nx t q r =
+    record {
+      peaks_are = r.peaks
+          ∙ ap (λ (x : Option ℕ). with_peak x old.span.next (number_from x a.packet.seq) a.stamp old.peaks) t
+          ∙ ap (λ (x : Option ℕ). with_peak (top ps) x (number_from (top ps) a.packet.seq) a.stamp old.peaks) nx
+          ∙ ap (λ (xs : List Peak). with_peak (top ps) o (number_from (top ps) a.packet.seq) a.stamp xs) q.peaks_are
+          ∙ with_peak_is o ps (taken ps a);
+      places = rw r.served q.places;
+      served_are = λ k e. rw r.served (q.served_are k e);
     }

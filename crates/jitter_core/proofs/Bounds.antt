@@ -1,6 +1,7 @@
 -- A state that has a segment leaves room for its next steps.
-use Rattle.std.proofs.Common.{ℕ, suc, ◌≡◌, ◌+◌, ◌≤◌, ◌<◌, ◌^◌, Bool, true, false, ◌&&◌, not, refl, sym, ap, subst, ◌∙◌, List, [], ◌∷◌, Option, None, Some, arith, length}
-use Rattle.std.specs.Prelude.{unwrap_or, is_some, IsSome, if◌then◌else◌}
+use Rattle.std.proofs.Common.{ℕ, suc, ◌≡◌, ◌+◌, ◌≤◌, ◌<◌, ◌^◌, ◌≢◌, ◌||◌, Bool, true, false, ◌&&◌, not, refl, sym, ap, subst, ◌∙◌, List, [], ◌∷◌, Option, None, Some, arith, length}
+use Rattle.std.specs.Prelude.{unwrap_or, is_some, IsSome, ◌==◌, if◌then◌else◌}
+use Rattle.std.proofs.lemmas.Grind.{common_steps}
 use Rattle.std.specs.Option.{ForSome}
 use Rattle.std.specs.FinMap as map
 use Rattle.jitter_model.specs.declared.Settings.{Settings}
@@ -17,11 +18,12 @@ use Rattle.jitter_model.proofs.Giving.{has-ge, is_some-found}
 use Rattle.jitter_model.proofs.Numbered.{IsNumbered, IsRun, IsOpened, AreTops, tops, numbered, opened_numbered, opened_run, length-accepted, pushes_most}
 use Rattle.jitter_model.proofs.Window.{InWindow, window, out_late}
 use Rattle.jitter_core.specs.declared.state.State.{State}
-use Rattle.jitter_core.specs.Parts.{Placed, Clocked, Marked}
-use Rattle.jitter_core.specs.Steps.{IsBounded}
+use Rattle.jitter_core.specs.Parts.{Placed, Clocked, Marked, Requested}
+use Rattle.jitter_core.specs.Steps.{IsTimely, IsBounded}
 use Rattle.jitter_core.specs.Stands.{live, live_next, live_out}
 use Rattle.jitter_core.proofs.Rooted.{IsRooted, rooted, opened_rooted, some_estimate, few_heights, length-skew}
 use Rattle.jitter_core.proofs.Kept.{marks_bounded, two_to, marks_to, first_small, kept_room}
+use Rattle.jitter_core.proofs.Firsts.{peaks_bounded, peaks_room, peaks_reach}
 use Rattle.jitter_core.proofs.Owed.{IsGiven, all_given}
 
 -- what is known of the accepted packets of a segment
@@ -147,19 +149,42 @@ has_some : (ps : List Taken) (q : ℕ) → has ps q ≡ true → is_some (top ps
 has_some [] q e = cc
 has_some (p ∷ ps) q e = refl
 
+next_to : (t l o : Option ℕ) → InWindow t l o → ForSome o (λ n. n ≤ unwrap_or t 0 + 1)
+next_to t l None w x e = cc
+next_to None None (Some n) w x e = absurd w.fact
+next_to None (Some l) (Some n) w x e = absurd w.fact
+next_to (Some t) None (Some n) w x e = absurd w.fact
+next_to (Some t) (Some l) (Some n) w x e = let same : n ≡ x = cc in let le : n ≤ t + 1 = w.fact.1 in omega arith
+
+top_has : (ps : List Taken) (t : ℕ) → is_some (top ps) ≡ true → unwrap_or (top ps) 0 ≡ t → has ps t ≡ true
+top_has [] t some e = cc
+top_has (p ∷ []) t some e = let is : t ≡ p.number = omega arith in grind (arith, common_steps)
+top_has (p ∷ q ∷ ps) t some e =
+    elim (t == p.number) as (λ b. (t == p.number) ≡ b → (b || has (q ∷ ps) t) ≡ true) [
+      | true ↦ λ _. refl
+      | false ↦ λ f. let other : t ≢ p.number = grind (arith, common_steps) in top_has (q ∷ ps) t refl (omega arith)
+    ] refl
+
+-- the greatest accepted number is held, unless it is out
+held_top : (s : State) (ps : List Taken) (o : Option ℕ) (out : ℕ → Bool) (t : ℕ) → Placed s ps o out → (out t ≡ true → is_late o t ≡ true) → top ps ≡ Some t → is_late o t ≡ false → is_some (map.get s.held t) ≡ true
+held_top s ps o out t p late e not_yet =
+    let in_here : out t ≡ false = elim (out t) as (λ b. out t ≡ b → b ≡ false) [ true ↦ λ f. (let bad : is_late o t ≡ true = late f in cc) | false ↦ λ _. refl ] refl in
+    ap is_some (p.held_are t) ∙ rw in_here (is_some-found s.settings ps t ∙ top_has ps t (ap is_some e) (ap (λ (x : Option ℕ). unwrap_or x 0) e))
+
 -- a state that has a segment
-pub segment_bounded : (s : State) (ps : List Taken) (o : Option ℕ) (out : ℕ → Bool) → s.progress.latency ≤ 2 ^ 62 → Placed s ps o out → Clocked s ps → Marked s ps o → IsSegment ps o out → IsBounded s
-segment_bounded s ps o out latency p c m g =
+pub segment_bounded : (s : State) (ps : List Taken) (o : Option ℕ) (out : ℕ → Bool) (served : ℕ → ℕ) → IsTimely s → Placed s ps o out → Clocked s ps → Marked s ps o → Requested s ps o served → IsSegment ps o out → IsBounded s
+segment_bounded s ps o out served timely p c m q g =
     let are : AreTops (length ps) (top ps) (least ps) = tops ps g.numbered in
     record {
       fitted = record { rate = c.rate_is; mode = c.mode_is };
-      latency = latency;
+      timely = timely;
       above = rw p.top_is (top_above _ _ _ are);
       below = rw p.top_is (top_below _ _ _ are g.few);
       least = rw p.least_is (least_below _ _ _ are g.few);
       next = rw p.next_is (next_below _ _ _ _ are g.few g.window);
       first = λ t e. first_small s.settings ps t (sym m.first_is ∙ e);
       window = rw (p.next_is, p.top_is) (window_after _ _ _ g.window);
+      next_top = rw (p.next_is, p.top_is) (next_to _ _ _ g.window);
       first_window = rw (p.next_is, p.top_is, p.least_is) (first_after _ _ _ g.window);
       least_known = rw (p.least_is, p.top_is) (least_with _ _ o g.window);
       next_known = rw (p.next_is, p.top_is) (next_with _ _ _ g.window);
@@ -169,6 +194,11 @@ segment_bounded s ps o out latency p c m g =
       few = omega (arith, c.stands.counts, length-skew (heights ps), few_heights ps, g.few);
       heights = rw m.marks_are (marks_bounded _ _ (top_under _ _ _ are g.few) (two_to _ o _ (marks_to s.settings ps)));
       room = rw m.marks_are (kept_room s.settings o ps g.window);
+      stamps = rw q.peaks_are (peaks_bounded o ps g.numbered);
+      peaks_room = rw q.peaks_are (peaks_room o ps g.numbered g.window);
+      places = q.places;
+      reach = rw p.next_is (peaks_reach o s.span.top ps s.peaks q.peaks_are p.top_is);
+      top_held = λ t e late. held_top s ps o out t p (g.late t) (sym p.top_is ∙ e) (rw p.next_is at late);
       held_from = λ q e. let x : (out q ≡ false) × (has ps q ≡ true) = held_facts s ps o out q p e in
           rw (p.next_is, p.least_is) (not_late ps o out q (g.given q) x.0 x.1, has-ge ps q x.1);
       held_to = λ q e. let x : (out q ≡ false) × (has ps q ≡ true) = held_facts s ps o out q p e in

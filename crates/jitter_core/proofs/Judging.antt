@@ -7,17 +7,17 @@ use Rattle.jitter_model.specs.declared.Arrival.{Arrival}
 use Rattle.jitter_model.specs.declared.Verdict.TheVariants.{Accepted, Late, Duplicate, Full, Stray, Flushing, Ended}
 use Rattle.jitter_model.specs.History.{History, is_flushing, has_ended}
 use Rattle.jitter_model.specs.Accepted.{has, is_original, number_from, aside, accepted}
-use Rattle.jitter_model.specs.Covered.{next, is_out, held_count}
+use Rattle.jitter_model.specs.Covered.{next, is_out, served, held_count}
 use Rattle.jitter_model.specs.Verdicts.{View, is_late, is_far, is_full, far_verdict, first_fit, view, verdict, number_of}
 use Rattle.jitter_model.specs.Times.{found, held}
 use Rattle.jitter_model.specs.Runs.{Run}
 use Rattle.jitter_model.proofs.Giving.{is_some-found}
 use Rattle.jitter_model.proofs.Window.{out_late}
 use Rattle.jitter_core.specs.declared.state.State.{State}
-use Rattle.jitter_core.specs.Parts.{Placed, Clocked, Marked}
+use Rattle.jitter_core.specs.Parts.{Placed, Clocked, Marked, Requested}
 use Rattle.jitter_core.specs.Steps.{run_of, state_number}
 use Rattle.jitter_core.specs.Pushing.{state_view, state_verdict}
-use Rattle.jitter_core.specs.Stands.{live, live_next, live_out, live_aside, Order, StandsFor}
+use Rattle.jitter_core.specs.Stands.{live, live_next, live_out, live_served, live_aside, Order, StandsFor}
 use Rattle.jitter_core.proofs.Asides.{run_is}
 
 -- ---- outside a flush
@@ -30,6 +30,9 @@ clocked_now s h e c = rw e at c
 
 pub marked_now : (s : State) (h : History) → is_flushing h ≡ false → Marked s (live h) (live_next h) → Marked s (accepted h) (next h)
 marked_now s h e m = rw e at m
+
+pub requested_now : (s : State) (h : History) → is_flushing h ≡ false → Requested s (live h) (live_next h) (live_served h) → Requested s (accepted h) (next h) (served h)
+requested_now s h e q = subst (λ (b : Bool). Requested s (if b then [] else accepted h) (if b then None else next h) (λ n. if b then 0 else served h n)) e q
 
 live_aside_now : (h : History) → is_flushing h ≡ false → live_aside h ≡ aside h
 live_aside_now h e = rw e refl

@@ -14,6 +14,20 @@ least_from-skip passes n e lt fails =
     let count : e - n ≡ suc (e - (n + 1)) = omega arith in
     rw count (least_from-next passes n (e - (n + 1)) fails)
 
+here : (passes : ℕ → Bool) (n count : ℕ) → passes n ≡ true → n ≡ least_from passes n (suc count)
+here passes n count is = rw is refl
+
+-- one that passes is the least
+pub least_from-here : (passes : ℕ → Bool) (n e : ℕ) → n < e → passes n ≡ true → n ≡ least_from passes n (e - n)
+least_from-here passes n e lt is =
+    let count : e - n ≡ suc (e - (n + 1)) = omega arith in
+    rw count (here passes n (e - (n + 1)) is)
+
+-- a number that is there, or whose deadline is still to come
+pub is_coming : (there : Bool) (time deadline : ℕ) → time < deadline → (there || nat_lt time deadline) ≡ true
+is_coming true time deadline lt = refl
+is_coming false time deadline lt = grind (arith, common_steps)
+
 -- a number that is not there and whose deadline has passed
 pub is_passed : (there : Bool) (time deadline : ℕ) → there ≡ false → deadline ≤ time → (there || nat_lt time deadline) ≡ false
 is_passed true time deadline e le = e

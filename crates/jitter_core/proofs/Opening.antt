@@ -1,5 +1,5 @@
 -- A segment is opened by the packets of a run, one after another.
-use Rattle.std.proofs.Common.{ℕ, ◌≡◌, ◌+◌, ◌≤◌, ◌<◌, ◌^◌, true, false, refl, sym, ap, subst, ◌∙◌, List, [], ◌∷◌, ◌++◌, append_assoc, length-append, drop, Option, None, Some, arith, length, min}
+use Rattle.std.proofs.Common.{ℕ, ◌≡◌, ◌+◌, ◌≤◌, ◌<◌, true, false, refl, sym, ap, subst, ◌∙◌, List, [], ◌∷◌, ◌++◌, append_assoc, length-append, drop, Option, None, Some, arith, length, min}
 use Rattle.std.specs.Prelude.{is_some, unwrap_or, option_map, slice_get}
 use Rattle.std.specs.FinMap as map
 use Rattle.std.proofs.lemmas.Grind.{common_steps}
@@ -12,9 +12,9 @@ use Rattle.jitter_model.proofs.Giving.{is_some-found}
 use Rattle.jitter_model.proofs.Numbered.{IsRun, IsOpened, opened_run, run_rest, above_has}
 use Rattle.jitter_core.specs.declared.state.State.{State}
 use Rattle.jitter_core.specs.Asides.{newest_first}
-use Rattle.jitter_core.specs.Steps.{IsBounded, CanAccept, Accepts, state_number}
+use Rattle.jitter_core.specs.Steps.{IsTimely, IsBounded, CanAccept, Accepts, state_number}
 use Rattle.jitter_core.specs.Pushing.{IsOpenedBy}
-use Rattle.jitter_core.proofs.Accepting.{placed_accept, clocked_accept, marked_accept}
+use Rattle.jitter_core.proofs.Accepting.{placed_accept, clocked_accept, marked_accept, requested_accept}
 use Rattle.jitter_core.proofs.Asides.{run_end}
 use Rattle.jitter_core.proofs.Bounds.{opened_segment, segment_bounded}
 
@@ -59,8 +59,8 @@ can_accept s done a o r few =
       original = λ _. run_original done a r;
     }
 
-pub opened_bounded : (s : State) (done : List Arrival) → s.progress.latency ≤ 2 ^ 62 → IsOpenedBy s done → IsRun done → length done ≤ 5 → IsBounded s
-opened_bounded s done latency o r few = segment_bounded s (opened done) None (λ q. false) latency o.placed o.clocked o.marked (opened_segment done r few)
+pub opened_bounded : (s : State) (done : List Arrival) → IsTimely s → IsOpenedBy s done → IsRun done → length done ≤ 5 → IsBounded s
+opened_bounded s done timely o r few = segment_bounded s (opened done) None (λ q. false) (λ q. 0) timely o.placed o.clocked o.marked o.requested (opened_segment done r few)
 
 -- ---- one step
 
@@ -70,6 +70,7 @@ next_opened old new done a o same r =
       placed = placed_accept old new (opened done) None (λ q. false) a same o.placed o.clocked o.marked r refl;
       clocked = clocked_accept old new (opened done) None a same o.placed.top_is o.clocked o.marked r;
       marked = marked_accept old new (opened done) None a same o.placed.next_is o.placed.top_is o.clocked o.marked r;
+      requested = requested_accept old new (opened done) None (λ q. 0) a o.placed.next_is o.placed.top_is o.requested r;
     }
 
 -- the packets that are left, one fewer, and those that are done, one more

@@ -21,7 +21,6 @@ use Rattle.jitter_core.proofs.Asides.{length_in_order}
 pub passed_keeps : (s : State) (h : History) (t : ℕ) → t < 2 ^ 63 + 2 ^ 50 → StandsFor s h → StandsFor (passed s t) (Clock t ∷ h)
 passed_keeps s h t small st =
     record {
-      built = st.built;
       run = (small, st.run);
       order = record {
         pushes_are = st.order.pushes_are;
@@ -36,12 +35,12 @@ passed_keeps s h t small st =
       };
       skew = record { clocked = record { rate_is = st.skew.clocked.rate_is; mode_is = st.skew.clocked.mode_is; stands = st.skew.clocked.stands } };
       times = record { marked = record { first_is = st.times.marked.first_is; marks_are = st.times.marked.marks_are } };
+      requests = record { requested = record { peaks_are = st.requests.requested.peaks_are; places = st.requests.requested.places; served_are = st.requests.requested.served_are } };
     }
 
 pub delayed_keeps : (s : State) (h : History) (ns : ℕ) → ns ≤ 600000000000 → StandsFor s h → StandsFor (delayed s ns) (Latency ns ∷ h)
 delayed_keeps s h ns small st =
     record {
-      built = st.built;
       run = (small, st.run);
       order = record {
         pushes_are = st.order.pushes_are;
@@ -56,6 +55,7 @@ delayed_keeps s h ns small st =
       };
       skew = record { clocked = record { rate_is = st.skew.clocked.rate_is; mode_is = st.skew.clocked.mode_is; stands = st.skew.clocked.stands } };
       times = record { marked = record { first_is = st.times.marked.first_is; marks_are = st.times.marked.marks_are } };
+      requests = record { requested = record { peaks_are = st.requests.requested.peaks_are; places = st.requests.requested.places; served_are = st.requests.requested.served_are } };
     }
 
 -- ---- the end of a pusher
@@ -73,7 +73,6 @@ length_set xs p = simp length-set
 pub ended_keeps : (s : State) (h : History) (pusher : ℕ) → pusher < 9 → is_pusher s.settings.pushers pusher ≡ true → StandsFor s h → StandsFor (ended s pusher) (Ends pusher ∷ h)
 ended_keeps s h pusher small is st =
     record {
-      built = st.built;
       run = (is, st.run);
       order = record {
         pushes_are = st.order.pushes_are;
@@ -88,6 +87,7 @@ ended_keeps s h pusher small is st =
       };
       skew = record { clocked = record { rate_is = st.skew.clocked.rate_is; mode_is = st.skew.clocked.mode_is; stands = st.skew.clocked.stands } };
       times = record { marked = record { first_is = st.times.marked.first_is; marks_are = st.times.marked.marks_are } };
+      requests = record { requested = record { peaks_are = st.requests.requested.peaks_are; places = st.requests.requested.places; served_are = st.requests.requested.served_are } };
     }
 
 below_same : (P Q : ℕ → Bool) (n : ℕ) → ((p : ℕ) → P p ≡ Q p) → all_below P n ≡ all_below Q n
@@ -141,7 +141,6 @@ flush_count_is s h o =
 pub flushed_keeps : (old new : State) (h : History) (dropped : ℕ) → StandsFor old h → dropped ≡ state_flush_count old → Flushes old new → StandsFor new (FlushStart dropped ∷ h)
 flushed_keeps old new h dropped st is f =
     record {
-      built = rw f.settings st.built;
       run = subst (λ (x : Settings). Run x (FlushStart dropped ∷ h)) (sym f.settings) (is ∙ flush_count_is old h st.order, st.run);
       order = record {
         pushes_are = rw f.progress st.order.pushes_are;
@@ -156,12 +155,12 @@ flushed_keeps old new h dropped st is f =
       };
       skew = record { clocked = f.segment.clocked };
       times = record { marked = f.segment.marked };
+      requests = record { requested = f.segment.requested };
     }
 
 pub resumed_keeps : (s : State) (h : History) → StandsFor s h → StandsFor (resumed s) (FlushStop ∷ h)
 resumed_keeps s h st =
     record {
-      built = st.built;
       run = st.run;
       order = record {
         pushes_are = st.order.pushes_are;
@@ -176,6 +175,7 @@ resumed_keeps s h st =
       };
       skew = record { clocked = record { rate_is = st.skew.clocked.rate_is; mode_is = st.skew.clocked.mode_is; stands = st.skew.clocked.stands } };
       times = record { marked = record { first_is = st.times.marked.first_is; marks_are = st.times.marked.marks_are } };
+      requests = record { requested = record { peaks_are = st.requests.requested.peaks_are; places = st.requests.requested.places; served_are = st.requests.requested.served_are } };
     }
 
 -- ---- reports
@@ -191,7 +191,6 @@ report_is s h ntp_ns rtp reply st r =
 pub reported_keeps : (s : State) (h : History) (ntp_ns rtp : ℕ) (reply : Option SyncInfo) → StandsFor s h → ntp_ns < 2 ^ 64 → rtp < 2 ^ 32 → Reports s ntp_ns rtp reply → StandsFor s (Report ntp_ns rtp reply ∷ h)
 reported_keeps s h ntp_ns rtp reply st a b r =
     record {
-      built = st.built;
       run = (record { ntp_ns_range = a; rtp_range = b; reply_is = report_is s h ntp_ns rtp reply st r }, st.run);
       order = record {
         pushes_are = st.order.pushes_are;
@@ -206,4 +205,5 @@ reported_keeps s h ntp_ns rtp reply st a b r =
       };
       skew = record { clocked = st.skew.clocked };
       times = record { marked = st.times.marked };
+      requests = record { requested = st.requests.requested };
     }

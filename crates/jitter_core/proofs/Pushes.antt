@@ -10,38 +10,51 @@ use Rattle.jitter_model.specs.declared.Verdict.TheVariants.{Accepted, Aside, Res
 use Rattle.jitter_model.specs.declared.Entry.TheVariants.{Push}
 use Rattle.jitter_model.specs.History.{History, is_flushing, is_pusher}
 use Rattle.jitter_model.specs.Accepted.{Taken, joined, opened, run_after, aside, accepted, taken_after, with_taken}
-use Rattle.jitter_model.specs.Covered.{next, is_out, opens}
+use Rattle.jitter_model.specs.Covered.{next, is_out, opens, served}
 use Rattle.jitter_model.specs.Verdicts.{view, verdict, number_of, opened_number, told_number, reply_number, aside_dropped, back_of, pushed}
 use Rattle.jitter_model.specs.Runs.{Run, IsPush, IsInRange}
 use Rattle.jitter_model.proofs.Judged.{IsAccepted, IsAside, IsRestart, says}
 use Rattle.jitter_model.proofs.Numbered.{joined_five, joined_follows}
 use Rattle.jitter_core.specs.declared.state.State.{State}
 use Rattle.jitter_core.specs.Asides.{in_order}
-use Rattle.jitter_core.specs.Parts.{Placed, Clocked, Marked}
+use Rattle.jitter_core.specs.Parts.{Placed, Clocked, Marked, Requested}
 use Rattle.jitter_core.specs.Steps.{Accepts, LeavesSegment, run_of, state_number}
 use Rattle.jitter_core.specs.Pushing.{IsOpenedBy, SegmentAfter, PushStep}
-use Rattle.jitter_core.specs.Stands.{live, live_next, live_out, live_aside, Order, StandsFor}
-use Rattle.jitter_core.proofs.Accepting.{placed_accept, clocked_accept, marked_accept}
+use Rattle.jitter_core.specs.Stands.{live, live_next, live_out, live_served, live_aside, Order, StandsFor}
+use Rattle.jitter_core.proofs.Accepting.{placed_accept, clocked_accept, marked_accept, requested_accept}
 use Rattle.jitter_core.proofs.Asides.{run_is}
-use Rattle.jitter_core.proofs.Judging.{placed_now, clocked_now, marked_now, run_now, number_now, not_out, verdict_is}
+use Rattle.jitter_core.proofs.Judging.{placed_now, clocked_now, marked_now, requested_now, run_now, number_now, not_out, verdict_is}
 
 -- the parts of a segment
-pub record HasSegment (s : State) (ps : List Taken) (o : Option ℕ) (out : ℕ → Bool) : Type 0 where
+pub record HasSegment (s : State) (ps : List Taken) (o : Option ℕ) (out : ℕ → Bool) (served : ℕ → ℕ) : Type 0 where
   pub placed : Placed s ps o out
   pub clocked : Clocked s ps
   pub marked : Marked s ps o
+  pub requested : Requested s ps o served
 
 -- a call that leaves the segment keeps its parts
-pub leaves : (old new : State) (ps : List Taken) (o : Option ℕ) (out : ℕ → Bool) → new.settings ≡ old.settings → LeavesSegment old new → Placed old ps o out → Clocked old ps → Marked old ps o → HasSegment new ps o out
-leaves old new ps o out same l p c m =
+pub leaves : (old new : State) (ps : List Taken) (o : Option ℕ) (out : ℕ → Bool) (served : ℕ → ℕ) → new.settings ≡ old.settings → LeavesSegment old new → HasSegment old ps o out served → HasSegment new ps o out served
+leaves old new ps o out served same l g =
+    let p = g.placed in
+    let c = g.clocked in
+    let m = g.marked in
     record {
       placed = record { next_is = rw l.span p.next_is; top_is = rw l.span p.top_is; least_is = rw l.span p.least_is; held_are = λ q. rw (l.held, same) (p.held_are q); count_is = rw l.span p.count_is };
       clocked = record { rate_is = rw (l.skew, same) c.rate_is; mode_is = rw (l.skew, same) c.mode_is; stands = rw l.skew c.stands };
       marked = record { first_is = rw (l.span, same) m.first_is; marks_are = rw (l.heights, same) m.marks_are };
+      requested = record { peaks_are = rw l.peaks g.requested.peaks_are; places = rw l.served g.requested.places; served_are = λ q e. rw l.served (g.requested.served_are q e) };
     }
 
-pub opens_segment : (new : State) (run : List Arrival) → IsOpenedBy new run → HasSegment new (opened run) None (λ q. false)
-opens_segment new run o = record { placed = o.placed; clocked = o.clocked; marked = o.marked }
+pub opens_segment : (new : State) (run : List Arrival) → IsOpenedBy new run → HasSegment new (opened run) None (λ q. false) (λ q. 0)
+opens_segment new run o = record { placed = o.placed; clocked = o.clocked; marked = o.marked; requested = o.requested }
+
+-- the segment of a state
+pub segment_of : (s : State) (h : History) → StandsFor s h → HasSegment s (live h) (live_next h) (live_out h) (live_served h)
+segment_of s h st = record { placed = st.order.placed; clocked = st.skew.clocked; marked = st.times.marked; requested = st.requests.requested }
+
+pub segment_now : (s : State) (h : History) → is_flushing h ≡ false → StandsFor s h → HasSegment s (accepted h) (next h) (is_out h) (served h)
+segment_now s h e st =
+    record { placed = placed_now s h e st.order.placed; clocked = clocked_now s h e st.skew.clocked; marked = marked_now s h e st.times.marked; requested = requested_now s h e st.requests.requested }
 
 -- the push that is added
 abbrev entry : Arrival → Pushed → History → History
@@ -49,10 +62,9 @@ entry a p h = Push a p.verdict p.number p.aside_dropped ∷ h
 
 -- whatever the verdict, it is enough that the segment and the packets put aside are right
 assemble : (old new : State) (h : History) (a : Arrival) (p : Pushed) → StandsFor old h → PushStep old new a p → IsPush old.settings h a p.verdict p.number p.aside_dropped
-    → HasSegment new (live (entry a p h)) (live_next (entry a p h)) (live_out (entry a p h)) → new.aside ≡ in_order (live_aside (entry a p h)) → StandsFor new (entry a p h)
+    → HasSegment new (live (entry a p h)) (live_next (entry a p h)) (live_out (entry a p h)) (live_served (entry a p h)) → new.aside ≡ in_order (live_aside (entry a p h)) → StandsFor new (entry a p h)
 assemble old new h a p st r is g aside_is =
     record {
-      built = rw r.settings st.built;
       run = subst (λ (x : Settings). Run x (entry a p h)) (sym r.settings) (is, st.run);
       order = record {
         pushes_are = rw r.progress (ap (λ (k : ℕ). k + 1) st.order.pushes_are);
@@ -67,6 +79,7 @@ assemble old new h a p st r is g aside_is =
       };
       skew = record { clocked = g.clocked };
       times = record { marked = g.marked };
+      requests = record { requested = g.requested };
     }
 
 -- ---- while a flush runs
@@ -118,45 +131,46 @@ flushing_dropped s h a Ended xs ys e f = refl
 run_in_flush : (s : State) (h : History) → Order s h → is_flushing h ≡ true → run_of s ≡ []
 run_in_flush s h o e = run_is s.aside (live_aside h) o.aside_is ∙ rw e refl
 
-flushing_segment : (new : State) (h : History) (a : Arrival) (p : Pushed) → is_flushing h ≡ true → HasSegment new (live h) (live_next h) (live_out h) → HasSegment new (live (entry a p h)) (live_next (entry a p h)) (live_out (entry a p h))
+flushing_segment : (new : State) (h : History) (a : Arrival) (p : Pushed) → is_flushing h ≡ true → HasSegment new (live h) (live_next h) (live_out h) (live_served h) → HasSegment new (live (entry a p h)) (live_next (entry a p h)) (live_out (entry a p h)) (live_served (entry a p h))
 flushing_segment new h a p e g =
-    subst (λ (b : Bool). HasSegment new (if b then [] else taken_after (accepted h) (aside h) a p.verdict) (if b then None else if opens p.verdict then None else next h) (λ n. not b && (not (opens p.verdict) && is_out h n))) (sym e)
-    (subst (λ (b : Bool). HasSegment new (if b then [] else accepted h) (if b then None else next h) (λ n. not b && is_out h n)) e g)
+    subst (λ (b : Bool). HasSegment new (if b then [] else taken_after (accepted h) (aside h) a p.verdict) (if b then None else if opens p.verdict then None else next h) (λ n. not b && (not (opens p.verdict) && is_out h n)) (λ n. if b then 0 else if opens p.verdict then 0 else served h n)) (sym e)
+    (subst (λ (b : Bool). HasSegment new (if b then [] else accepted h) (if b then None else next h) (λ n. not b && is_out h n) (λ n. if b then 0 else served h n)) e g)
 
 push_in_flush : (old new : State) (h : History) (a : Arrival) (p : Pushed) → StandsFor old h → PushStep old new a p → IsPush old.settings h a p.verdict p.number p.aside_dropped → is_flushing h ≡ true → StandsFor new (entry a p h)
 push_in_flush old new h a p st r is e =
     assemble old new h a p st r is
-    (flushing_segment new h a p e (leaves old new (live h) (live_next h) (live_out h) r.settings (flushing_leaves old new h a p.verdict is.verdict_is e r.segment) st.order.placed st.skew.clocked st.times.marked))
+    (flushing_segment new h a p e (leaves old new (live h) (live_next h) (live_out h) (live_served h) r.settings (flushing_leaves old new h a p.verdict is.verdict_is e r.segment) (segment_of old h st)))
     (rw e (r.aside ∙ ap in_order (flushing_aside old h a p.verdict is.verdict_is e (run_in_flush old h st.order e))))
 
 -- ---- outside a flush
 
 -- the segment after a push with this verdict
 abbrev IsAfter : State → History → Arrival → Verdict → Type 0
-IsAfter new h a v = HasSegment new (taken_after (accepted h) (aside h) a v) (if opens v then None else next h) (λ q. not (opens v) && is_out h q)
+IsAfter new h a v = HasSegment new (taken_after (accepted h) (aside h) a v) (if opens v then None else next h) (λ q. not (opens v) && is_out h q) (λ q. if opens v then 0 else served h q)
 
 record After (new : State) (h : History) (a : Arrival) (v : Verdict) : Type 0 where
   fact : IsAfter new h a v
 
-left_alone : (old new : State) (h : History) → new.settings ≡ old.settings → LeavesSegment old new → HasSegment old (accepted h) (next h) (is_out h) → HasSegment new (accepted h) (next h) (is_out h)
-left_alone old new h same l g = leaves old new (accepted h) (next h) (is_out h) same l g.placed g.clocked g.marked
+left_alone : (old new : State) (h : History) → new.settings ≡ old.settings → LeavesSegment old new → HasSegment old (accepted h) (next h) (is_out h) (served h) → HasSegment new (accepted h) (next h) (is_out h) (served h)
+left_alone old new h same l g = leaves old new (accepted h) (next h) (is_out h) (served h) same l g
 
-accepted_after : (old new : State) (h : History) (a : Arrival) → Run old.settings h → new.settings ≡ old.settings → Accepted ≡ verdict old.settings h a → Accepts old new a (state_number old a) → HasSegment old (accepted h) (next h) (is_out h) → HasSegment new (with_taken (accepted h) a) (next h) (is_out h)
+accepted_after : (old new : State) (h : History) (a : Arrival) → Run old.settings h → new.settings ≡ old.settings → Accepted ≡ verdict old.settings h a → Accepts old new a (state_number old a) → HasSegment old (accepted h) (next h) (is_out h) (served h) → HasSegment new (with_taken (accepted h) a) (next h) (is_out h) (served h)
 accepted_after old new h a r same e acc g =
     let x : IsAccepted old.settings (view h a) a = says old.settings h a Accepted e in
     record {
       placed = placed_accept old new (accepted h) (next h) (is_out h) a same g.placed g.clocked g.marked acc (not_out old.settings h (number_of h a) r x.late);
       clocked = clocked_accept old new (accepted h) (next h) a same g.placed.top_is g.clocked g.marked acc;
       marked = marked_accept old new (accepted h) (next h) a same g.placed.next_is g.placed.top_is g.clocked g.marked acc;
+      requested = requested_accept old new (accepted h) (next h) (served h) a g.placed.next_is g.placed.top_is g.requested acc;
     }
 
-restarted_after : (old new : State) (h : History) (a : Arrival) (d : ℕ) → Restart d ≡ verdict old.settings h a → run_of old ≡ aside h → IsOpenedBy new (a ∷ run_of old) → HasSegment new (opened (joined (aside h) a)) None (λ q. false)
+restarted_after : (old new : State) (h : History) (a : Arrival) (d : ℕ) → Restart d ≡ verdict old.settings h a → run_of old ≡ aside h → IsOpenedBy new (a ∷ run_of old) → HasSegment new (opened (joined (aside h) a)) None (λ q. false) (λ q. 0)
 restarted_after old new h a d e run o =
     let x : IsRestart old.settings (view h a) a d = says old.settings h a (Restart d) e in
     let all : a ∷ run_of old ≡ joined (aside h) a = ap (λ (run : List Arrival). a ∷ run) run ∙ sym (joined_follows (aside h) a (joined_five (aside h) a x.run)) in
     opens_segment new (joined (aside h) a) (subst (λ (run : List Arrival). IsOpenedBy new run) all o)
 
-segment_after : (old new : State) (h : History) (a : Arrival) (v : Verdict) → Run old.settings h → new.settings ≡ old.settings → v ≡ verdict old.settings h a → run_of old ≡ aside h → SegmentAfter old a v new → HasSegment old (accepted h) (next h) (is_out h) → After new h a v
+segment_after : (old new : State) (h : History) (a : Arrival) (v : Verdict) → Run old.settings h → new.settings ≡ old.settings → v ≡ verdict old.settings h a → run_of old ≡ aside h → SegmentAfter old a v new → HasSegment old (accepted h) (next h) (is_out h) (served h) → After new h a v
 segment_after old new h a Accepted r same e run s g = record { fact = accepted_after old new h a r same e s g }
 segment_after old new h a (Restart d) r same e run s g = record { fact = restarted_after old new h a d e run s }
 segment_after old new h a Aside r same e run s g = record { fact = left_alone old new h same s g }
@@ -167,14 +181,14 @@ segment_after old new h a Stray r same e run s g = record { fact = left_alone ol
 segment_after old new h a Flushing r same e run s g = record { fact = left_alone old new h same s g }
 segment_after old new h a Ended r same e run s g = record { fact = left_alone old new h same s g }
 
-open_segment : (new : State) (h : History) (a : Arrival) (p : Pushed) → is_flushing h ≡ false → IsAfter new h a p.verdict → HasSegment new (live (entry a p h)) (live_next (entry a p h)) (live_out (entry a p h))
+open_segment : (new : State) (h : History) (a : Arrival) (p : Pushed) → is_flushing h ≡ false → IsAfter new h a p.verdict → HasSegment new (live (entry a p h)) (live_next (entry a p h)) (live_out (entry a p h)) (live_served (entry a p h))
 open_segment new h a p e g =
-    subst (λ (b : Bool). HasSegment new (if b then [] else taken_after (accepted h) (aside h) a p.verdict) (if b then None else if opens p.verdict then None else next h) (λ n. not b && (not (opens p.verdict) && is_out h n))) (sym e) g
+    subst (λ (b : Bool). HasSegment new (if b then [] else taken_after (accepted h) (aside h) a p.verdict) (if b then None else if opens p.verdict then None else next h) (λ n. not b && (not (opens p.verdict) && is_out h n)) (λ n. if b then 0 else if opens p.verdict then 0 else served h n)) (sym e) g
 
 push_outside : (old new : State) (h : History) (a : Arrival) (p : Pushed) → StandsFor old h → PushStep old new a p → IsPush old.settings h a p.verdict p.number p.aside_dropped → is_flushing h ≡ false → StandsFor new (entry a p h)
 push_outside old new h a p st r is e =
     let run : run_of old ≡ aside h = run_now old h st.order e in
-    let g : HasSegment old (accepted h) (next h) (is_out h) = record { placed = placed_now old h e st.order.placed; clocked = clocked_now old h e st.skew.clocked; marked = marked_now old h e st.times.marked } in
+    let g : HasSegment old (accepted h) (next h) (is_out h) (served h) = segment_now old h e st in
     assemble old new h a p st r is
     (open_segment new h a p e (segment_after old new h a p.verdict st.run r.settings is.verdict_is run r.segment g).fact)
     (rw e (r.aside ∙ ap (λ (xs : List Arrival). in_order (run_after xs a p.verdict)) run))

@@ -13,14 +13,19 @@ use Rattle.jitter_model.specs.Runs.{IsValid}
 use Rattle.jitter_model.proofs.Numbered.{IsRun, IsAsideRun, aside_run, run_or_none, valid_of, latency_most}
 use Rattle.jitter_core.specs.declared.state.State.{State}
 use Rattle.jitter_core.specs.Asides.{in_order}
-use Rattle.jitter_core.specs.Steps.{IsBounded, run_of}
-use Rattle.jitter_core.specs.Stands.{live, live_next, live_out, live_aside, IsBuilt, StandsFor, IsReached}
+use Rattle.jitter_core.specs.Served.{served_in}
+use Rattle.jitter_core.specs.Steps.{IsTimely, IsBounded, run_of}
+use Rattle.jitter_core.specs.Stands.{live, live_next, live_out, live_served, live_aside, StandsFor, IsReached}
 use Rattle.jitter_core.proofs.Asides.{run_is, in_order_is}
 use Rattle.jitter_core.proofs.Bounds.{segment, segment_bounded}
 
+timely : (s : State) (h : History) → StandsFor s h → IsTimely s
+timely s h st =
+    let v : IsValid s.settings = valid_of s.settings h st.run in
+    record { latency = rw st.order.latency_is (latency_most s.settings h st.run); delay = v.rtx_delay_to; retry_from = omega (arith, v.rtx_retry_from); retry_to = v.rtx_retry_to }
+
 pub bounded : (s : State) (h : History) → StandsFor s h → IsBounded s
-bounded s h st =
-    segment_bounded s (live h) (live_next h) (live_out h) (omega (arith, st.order.latency_is, latency_most s.settings h st.run)) st.order.placed st.skew.clocked st.times.marked (segment s.settings h st.run)
+bounded s h st = segment_bounded s (live h) (live_next h) (live_out h) (live_served h) (timely s h st) st.order.placed st.skew.clocked st.times.marked st.requests.requested (segment s.settings h st.run)
 
 -- the packets put aside are a run, and stand in order
 pub record HasRun (s : State) : Type 0 where
@@ -54,9 +59,6 @@ reached_run s r = ∥∥₁_elim r (hlevel (props, run_prop)) (λ x. (has_run s 
 
 pub reached_pushers : (s : State) → IsReached s → s.settings.pushers < 512
 reached_pushers s r = ∥∥₁_elim r (hlevel props) (λ x. valid s x.0 x.1)
-
-pub reached_plain : (s : State) → IsReached s → s.settings.rtx ≡ false
-reached_plain s r = ∥∥₁_elim r (hlevel props) (λ x. x.1.built.rtx)
 
 -- a call that keeps what a state stands for, with an entry added, keeps that it stands for some history
 pub reached_after : (old new : State) (after : History → History) → ((h : History) → StandsFor old h → StandsFor new (after h)) → IsReached old → IsReached new
@@ -97,11 +99,13 @@ pub record IsNew (s : State) : Type 0 where
   pub skew_mode : s.skew.mode ≡ s.settings.mode
   pub skew : IsSkewOf s.skew []
   pub heights : s.heights ≡ []
+  pub peaks : s.peaks ≡ []
+  pub places : length s.served ≡ 16384
+  pub served : (q : ℕ) → served_in s.served q ≡ 0
 
-pub new_stands : (s : State) → IsValid s.settings → IsBuilt s.settings → IsNew s → StandsFor s []
-new_stands s v b e =
+pub new_stands : (s : State) → IsValid s.settings → IsNew s → StandsFor s []
+new_stands s v e =
     record {
-      built = b;
       run = v;
       order = record {
         pushes_are = e.pushes;
@@ -116,4 +120,5 @@ new_stands s v b e =
       };
       skew = record { clocked = record { rate_is = e.skew_rate; mode_is = e.skew_mode; stands = e.skew } };
       times = record { marked = record { first_is = e.first_pts; marks_are = e.heights } };
+      requests = record { requested = record { peaks_are = e.peaks; places = e.places; served_are = λ q _. e.served q } };
     }

@@ -1,6 +1,6 @@
 -- A turn keeps what a state stands for, with the turn added.
-use Rattle.std.proofs.Common.{ℕ, ◌≡◌, ◌+◌, ◌-◌, ◌<◌, Bool, true, false, ◌||◌, ◌&&◌, not, refl, sym, ap, subst, ◌∙◌, List, [], ◌∷◌, Option, None, Some, arith}
-use Rattle.std.specs.Prelude.{is_some, ◌==◌, if◌then◌else◌}
+use Rattle.std.proofs.Common.{ℕ, ◌≡◌, ◌+◌, ◌-◌, ◌<◌, ◌≤◌, ◌≢◌, length, Bool, true, false, ◌||◌, ◌&&◌, not, refl, sym, ap, subst, ◌∙◌, List, [], ◌∷◌, Option, None, Some, arith}
+use Rattle.std.specs.Prelude.{is_some, unwrap_or, ◌==◌, ◌%◌, if◌then◌else◌}
 use Rattle.std.proofs.lemmas.Grind.{common_steps}
 use Rattle.std.specs.FinMap as map
 use Rattle.std.specs.Cmp.{nat_cmp_total, unsigned_tied}
@@ -12,37 +12,45 @@ use Rattle.jitter_model.specs.declared.Turn.{Turn}
 use Rattle.jitter_model.specs.declared.Turn.TheVariants.{Packet, Lost, Request, End, Idle, Flushing}
 use Rattle.jitter_model.specs.declared.Entry.TheVariants.{Turned}
 use Rattle.jitter_model.specs.History.{History, latency, is_flushing, is_end, end_told}
-use Rattle.jitter_model.specs.Accepted.{Taken, has, accepted}
-use Rattle.jitter_model.specs.Covered.{next, is_out, count_in}
+use Rattle.jitter_model.specs.Accepted.{Taken, top, least, has, accepted}
+use Rattle.jitter_model.specs.Covered.{next, is_out, count_in, served, served_after}
 use Rattle.jitter_model.specs.Verdicts.{is_late}
 use Rattle.jitter_model.specs.Times.{marks, found}
-use Rattle.jitter_model.specs.Turns.{Sight, sight, turn, is_quiet}
+use Rattle.jitter_model.specs.Turns.{Sight, low, sight, turn, is_quiet}
 use Rattle.jitter_model.specs.Runs.{Run}
 use Rattle.jitter_model.proofs.Chain.{split}
 use Rattle.jitter_model.proofs.Covers.{Covers, covers}
 use Rattle.jitter_model.proofs.Giving.{given, is_some-found}
 use Rattle.jitter_model.proofs.Numbered.{IsDistinct, distinct}
+use Rattle.jitter_model.proofs.Window.{InWindow, window}
 use Rattle.jitter_core.specs.declared.state.Progress.{Progress}
 use Rattle.jitter_core.specs.declared.state.Span.{Span}
 use Rattle.jitter_core.specs.declared.state.State.{State}
 use Rattle.jitter_core.specs.Marks.{kept_two}
-use Rattle.jitter_core.specs.Parts.{Placed, Clocked, Marked}
+use Rattle.jitter_core.specs.declared.served.Service.{Service}
+use Rattle.jitter_core.specs.Peaks.{peaks, above}
+use Rattle.jitter_core.specs.Served.{served_in}
+use Rattle.jitter_core.specs.Parts.{Placed, Clocked, Marked, Requested}
+use Rattle.jitter_core.proofs.Firsts.{above_later}
+use Rattle.jitter_core.proofs.Serving.{IsRequest, requests, IsServed, all_served, served_more, served_long, apart}
 use Rattle.jitter_core.specs.Steps.{LeavesSegment, IsSame}
-use Rattle.jitter_core.specs.Turning.{state_sight, plain_turn, Gives, Loses, TurnDoes}
-use Rattle.jitter_core.specs.Stands.{live, live_next, live_out, StandsFor}
+use Rattle.jitter_core.specs.Turning.{state_turn, Gives, Loses, Serves, TurnDoes}
+use Rattle.jitter_core.specs.Stands.{live, live_next, live_out, live_served, StandsFor}
 use Rattle.jitter_core.proofs.Agreeing.{turn_is, flushing_turn}
-use Rattle.jitter_core.proofs.Judging.{placed_now, clocked_now, marked_now, not_out}
+use Rattle.jitter_core.proofs.Judging.{placed_now, clocked_now, marked_now, requested_now, not_out}
 use Rattle.jitter_core.proofs.Kept.{IsBelow, two_two}
-use Rattle.jitter_core.proofs.Pushes.{HasSegment, leaves}
+use Rattle.jitter_core.proofs.Pushes.{HasSegment, leaves, segment_of, segment_now}
 
 -- ---- quiet turns
+
+left_alone : (old new : State) (h : History) → new.settings ≡ old.settings → LeavesSegment old new → StandsFor old h → HasSegment new (live h) (live_next h) (live_out h) (live_served h)
+left_alone old new h same l st = leaves old new (live h) (live_next h) (live_out h) (live_served h) same l (segment_of old h st)
 
 -- a call that changes nothing keeps all
 pub same_keeps : (old new : State) (h : History) → StandsFor old h → IsSame old new → StandsFor new h
 same_keeps old new h st r =
-    let g : HasSegment new (live h) (live_next h) (live_out h) = leaves old new (live h) (live_next h) (live_out h) r.settings r.segment st.order.placed st.skew.clocked st.times.marked in
+    let g : HasSegment new (live h) (live_next h) (live_out h) (live_served h) = left_alone old new h r.settings r.segment st in
     record {
-      built = rw r.settings st.built;
       run = subst (λ (x : Settings). Run x h) (sym r.settings) st.run;
       order = record {
         pushes_are = rw r.progress st.order.pushes_are;
@@ -57,6 +65,7 @@ same_keeps old new h st r =
       };
       skew = record { clocked = g.clocked };
       times = record { marked = g.marked };
+      requests = record { requested = g.requested };
     }
 
 -- a turn that leaves time, pushes and pushers alone; it is enough that the segment is right
@@ -74,10 +83,9 @@ alone old new s p a =
     record { settings = s; pushes = ap (λ (x : Progress). x.pushes) p; time = ap (λ (x : Progress). x.time) p; latency = ap (λ (x : Progress). x.latency) p; flushing = ap (λ (x : Progress). x.flushing) p; ended = ap (λ (x : Progress). x.ended) p; aside = a }
 
 assemble : (old new : State) (h : History) (r : Turn) → StandsFor old h → r ≡ turn old.settings h → Alone old new → new.progress.end_told ≡ (is_end r || end_told h)
-    → HasSegment new (live (Turned r ∷ h)) (live_next (Turned r ∷ h)) (live_out (Turned r ∷ h)) → StandsFor new (Turned r ∷ h)
+    → HasSegment new (live (Turned r ∷ h)) (live_next (Turned r ∷ h)) (live_out (Turned r ∷ h)) (live_served (Turned r ∷ h)) → StandsFor new (Turned r ∷ h)
 assemble old new h r st is a told g =
     record {
-      built = rw a.settings st.built;
       run = subst (λ (x : Settings). Run x (Turned r ∷ h)) (sym a.settings) (is, st.run);
       order = record {
         pushes_are = a.pushes ∙ st.order.pushes_are;
@@ -92,6 +100,7 @@ assemble old new h r st is a told g =
       };
       skew = record { clocked = g.clocked };
       times = record { marked = g.marked };
+      requests = record { requested = g.requested };
     }
 
 -- ---- a packet is given out
@@ -156,7 +165,20 @@ covers_not_late : (v : Sight) (o : Option ℕ) (n pts : ℕ) (p : PacketType) �
 covers_not_late v None n pts p c = refl
 covers_not_late v (Some k) n pts p c = let is : n ≡ k = c.0 in grind (arith, common_steps)
 
-gives_keeps : (old new : State) (h : History) (n pts : ℕ) (p : PacketType) → StandsFor old h → is_flushing h ≡ false → Packet n pts p ≡ turn old.settings h → Gives old new n → HasSegment new (accepted h) (Some (n + 1)) (λ q. q == n || is_out h q)
+-- what is kept of requests once the next number is a later one
+late_before : (o : Option ℕ) (m q : ℕ) → IsBelow o m → is_late (Some m) q ≡ false → is_late o q ≡ false
+late_before None m q le e = refl
+late_before (Some k) m q le e = grind (arith, common_steps)
+
+goes_on : (old new : State) (ps : List Taken) (o : Option ℕ) (m : ℕ) (served : ℕ → ℕ) → IsBelow o m → new.peaks ≡ above m old.peaks → new.served ≡ old.served → Requested old ps o served → Requested new ps (Some m) served
+goes_on old new ps o m served le p s q =
+    record {
+      peaks_are = p ∙ ap (above m) q.peaks_are ∙ above_later o m (peaks ps) le;
+      places = rw s q.places;
+      served_are = λ k e. rw s (q.served_are k (late_before o m k le e));
+    }
+
+gives_keeps : (old new : State) (h : History) (n pts : ℕ) (p : PacketType) → StandsFor old h → is_flushing h ≡ false → Packet n pts p ≡ turn old.settings h → Gives old new n → HasSegment new (accepted h) (Some (n + 1)) (λ q. q == n || is_out h q) (served h)
 gives_keeps old new h n pts p st e is d =
     let cover : Covers (sight old.settings h) (next h) (Packet n pts p) = (covers old.settings h (Packet n pts p) is).fact in
     let g : Placed old (accepted h) (next h) (is_out h) = placed_now old h e st.order.placed in
@@ -178,9 +200,10 @@ gives_keeps old new h n pts p st e is d =
         marks_are = subst (λ (x : Settings). new.heights ≡ kept_two (Some (n + 1)) (marks x (accepted h))) (sym d.settings)
             (d.heights ∙ ap (kept_two (Some (n + 1))) m.marks_are ∙ two_two (next h) (n + 1) (marks old.settings (accepted h)) (covers_below (sight old.settings h) (next h) n pts p cover));
       };
+      requested = goes_on old new (accepted h) (next h) (n + 1) (served h) (covers_below (sight old.settings h) (next h) n pts p cover) d.peaks d.served (requested_now old h e st.requests.requested);
     }
 
-loses_keeps : (old new : State) (h : History) (n count pts e : ℕ) → StandsFor old h → is_flushing h ≡ false → Lost n count pts e ≡ turn old.settings h → Loses old new (n + count) → HasSegment new (accepted h) (Some (n + count)) (is_out h)
+loses_keeps : (old new : State) (h : History) (n count pts e : ℕ) → StandsFor old h → is_flushing h ≡ false → Lost n count pts e ≡ turn old.settings h → Loses old new (n + count) → HasSegment new (accepted h) (Some (n + count)) (is_out h) (served h)
 loses_keeps old new h n count pts e st f is d =
     let cover : Covers (sight old.settings h) (next h) (Lost n count pts e) = (covers old.settings h (Lost n count pts e) is).fact in
     let g : Placed old (accepted h) (next h) (is_out h) = placed_now old h f st.order.placed in
@@ -200,6 +223,55 @@ loses_keeps old new h n count pts e st f is d =
         marks_are = subst (λ (x : Settings). new.heights ≡ kept_two (Some (n + count)) (marks x (accepted h))) (sym d.settings)
             (d.heights ∙ ap (kept_two (Some (n + count))) m.marks_are ∙ two_two (next h) (n + count) (marks old.settings (accepted h)) (loses_below (sight old.settings h) (next h) n count pts e cover));
       };
+      requested = goes_on old new (accepted h) (next h) (n + count) (served h) (loses_below (sight old.settings h) (next h) n count pts e cover) d.peaks d.served (requested_now old h f st.requests.requested);
+    }
+
+-- ---- a request is served
+
+low_least : (s : Settings) (h : History) (o : Option ℕ) (q : ℕ) → is_late o q ≡ false → (o ≡ None → unwrap_or (least (accepted h)) 0 ≤ q) → low (sight s h) o ≤ q
+low_least s h None q e from = from refl
+low_least s h (Some k) q e from = grind (arith, common_steps)
+
+top_near : (s : Settings) (h : History) (t l o : Option ℕ) → InWindow t l o → (sight s h).top ≡ unwrap_or t 0 → (sight s h).least ≡ unwrap_or l 0 → (sight s h).top < low (sight s h) o + 8192
+top_near s h None None None w e f = omega arith
+top_near s h (Some t) (Some l) None w e f = omega (arith, w.fact.0, e, f)
+top_near s h (Some t) (Some l) (Some k) w e f = omega (arith, w.fact.0, e)
+top_near s h None (Some l) None w e f = absurd w.fact
+top_near s h None None (Some k) w e f = absurd w.fact
+top_near s h None (Some l) (Some k) w e f = absurd w.fact
+top_near s h (Some t) None None w e f = absurd w.fact
+top_near s h (Some t) None (Some k) w e f = absurd w.fact
+
+-- a number of which requests were served has the place of no other in the window
+none_served : (s : Settings) (h : History) (n k q : ℕ) → Run s h → IsRequest s (sight s h) (next h) n k → is_late (next h) q ≡ false → q % 16384 ≡ n % 16384 → q ≢ n → served h q ≡ 0
+none_served s h n k q r x e same other =
+    elim (served h q == 0) as (λ b. (served h q == 0) ≡ b → served h q ≡ 0) [
+      | true ↦ λ f. grind (arith, common_steps)
+      | false ↦ λ f.
+          let some : 0 < served h q = grind (arith, common_steps) in
+          let g : IsServed (top (accepted h)) (least (accepted h)) (next h) q (served h q) = all_served s h q r in
+          let near : (sight s h).top < low (sight s h) (next h) + 8192 = top_near s h (top (accepted h)) (least (accepted h)) (next h) (window s h r) refl refl in
+          let from : low (sight s h) (next h) ≤ q = low_least s h (next h) q e (g.fact some).2 in
+          absurd (other (apart (low (sight s h) (next h)) q n from x.from (omega (arith, near, (g.fact some).1)) (omega (arith, near, x.to)) same))
+    ] refl
+
+serves_keeps : (old new : State) (h : History) (n k : ℕ) → StandsFor old h → is_flushing h ≡ false → Request n k ≡ turn old.settings h → Serves old new n k → HasSegment new (accepted h) (next h) (is_out h) (λ q. served_after (served h q) (Request n k) q)
+serves_keeps old new h n k st e is d =
+    let x : IsRequest old.settings (sight old.settings h) (next h) n k = requests old.settings (sight old.settings h) (next h) n k is in
+    let g : HasSegment old (accepted h) (next h) (is_out h) (served h) = segment_now old h e st in
+    record {
+      placed = record { next_is = rw d.span g.placed.next_is; top_is = rw d.span g.placed.top_is; least_is = rw d.span g.placed.least_is; held_are = λ q. rw (d.held, d.settings) (g.placed.held_are q); count_is = rw d.span g.placed.count_is };
+      clocked = record { rate_is = rw (d.skew, d.settings) g.clocked.rate_is; mode_is = rw (d.skew, d.settings) g.clocked.mode_is; stands = rw d.skew g.clocked.stands };
+      marked = record { first_is = rw (d.span, d.settings) g.marked.first_is; marks_are = rw (d.heights, d.settings) g.marked.marks_are };
+      requested = record {
+        peaks_are = rw d.peaks g.requested.peaks_are;
+        places = ap (λ (xs : List Service). length xs) d.served ∙ served_long old.served n (k + 1) ∙ g.requested.places;
+        served_are = λ q late.
+            ap (λ (xs : List Service). served_in xs q) d.served
+            ∙ served_more old.served n k q (served h q) g.requested.places (g.requested.served_are q late)
+            (λ same. rw same x.unserved)
+            (λ place other. none_served old.settings h n k q st.run x late place other);
+      };
     }
 
 -- ---- all turns
@@ -211,14 +283,14 @@ not_flushing s h r is other =
       | false ↦ λ e. e
     ] refl
 
-packet_segment : (new : State) (h : History) (n pts : ℕ) (p : PacketType) → is_flushing h ≡ false → HasSegment new (accepted h) (Some (n + 1)) (λ q. q == n || is_out h q) → HasSegment new (live (Turned (Packet n pts p) ∷ h)) (live_next (Turned (Packet n pts p) ∷ h)) (live_out (Turned (Packet n pts p) ∷ h))
-packet_segment new h n pts p e g = subst (λ (b : Bool). HasSegment new (if b then [] else accepted h) (if b then None else Some (n + 1)) (λ q. not b && (q == n || is_out h q))) (sym e) g
+packet_segment : (new : State) (h : History) (n pts : ℕ) (p : PacketType) → is_flushing h ≡ false → HasSegment new (accepted h) (Some (n + 1)) (λ q. q == n || is_out h q) (served h) → HasSegment new (live (Turned (Packet n pts p) ∷ h)) (live_next (Turned (Packet n pts p) ∷ h)) (live_out (Turned (Packet n pts p) ∷ h)) (live_served (Turned (Packet n pts p) ∷ h))
+packet_segment new h n pts p e g = subst (λ (b : Bool). HasSegment new (if b then [] else accepted h) (if b then None else Some (n + 1)) (λ q. not b && (q == n || is_out h q)) (λ q. if b then 0 else served h q)) (sym e) g
 
-lost_segment : (new : State) (h : History) (n count pts d : ℕ) → is_flushing h ≡ false → HasSegment new (accepted h) (Some (n + count)) (is_out h) → HasSegment new (live (Turned (Lost n count pts d) ∷ h)) (live_next (Turned (Lost n count pts d) ∷ h)) (live_out (Turned (Lost n count pts d) ∷ h))
-lost_segment new h n count pts d e g = subst (λ (b : Bool). HasSegment new (if b then [] else accepted h) (if b then None else Some (n + count)) (λ q. not b && is_out h q)) (sym e) g
+lost_segment : (new : State) (h : History) (n count pts d : ℕ) → is_flushing h ≡ false → HasSegment new (accepted h) (Some (n + count)) (is_out h) (served h) → HasSegment new (live (Turned (Lost n count pts d) ∷ h)) (live_next (Turned (Lost n count pts d) ∷ h)) (live_out (Turned (Lost n count pts d) ∷ h)) (live_served (Turned (Lost n count pts d) ∷ h))
+lost_segment new h n count pts d e g = subst (λ (b : Bool). HasSegment new (if b then [] else accepted h) (if b then None else Some (n + count)) (λ q. not b && is_out h q) (λ q. if b then 0 else served h q)) (sym e) g
 
-left_alone : (old new : State) (h : History) → new.settings ≡ old.settings → LeavesSegment old new → StandsFor old h → HasSegment new (live h) (live_next h) (live_out h)
-left_alone old new h same l st = leaves old new (live h) (live_next h) (live_out h) same l st.order.placed st.skew.clocked st.times.marked
+request_segment : (new : State) (h : History) (n k : ℕ) → is_flushing h ≡ false → HasSegment new (accepted h) (next h) (is_out h) (λ q. served_after (served h q) (Request n k) q) → HasSegment new (live (Turned (Request n k) ∷ h)) (live_next (Turned (Request n k) ∷ h)) (live_out (Turned (Request n k) ∷ h)) (live_served (Turned (Request n k) ∷ h))
+request_segment new h n k e g = subst (λ (b : Bool). HasSegment new (if b then [] else accepted h) (if b then None else next h) (λ q. not b && is_out h q) (λ q. if b then 0 else served_after (served h q) (Request n k) q)) (sym e) g
 
 turned_keeps : (old new : State) (h : History) (r : Turn) → StandsFor old h → r ≡ turn old.settings h → TurnDoes old r new → StandsFor new (Turned r ∷ h)
 turned_keeps old new h (Packet n pts p) st is d =
@@ -229,7 +301,10 @@ turned_keeps old new h (Lost n count pts x) st is d =
     let e : is_flushing h ≡ false = not_flushing old.settings h (Lost n count pts x) is (λ x. cc) in
     assemble old new h (Lost n count pts x) st is (alone old new d.settings d.progress d.aside) (ap (λ (x : Progress). x.end_told) d.progress ∙ st.order.told_is)
     (lost_segment new h n count pts x e (loses_keeps old new h n count pts x st e is d))
-turned_keeps old new h (Request n k) st is d = absurd d
+turned_keeps old new h (Request n k) st is d =
+    let e : is_flushing h ≡ false = not_flushing old.settings h (Request n k) is (λ x. cc) in
+    assemble old new h (Request n k) st is (alone old new d.settings d.progress d.aside) (ap (λ (x : Progress). x.end_told) d.progress ∙ st.order.told_is)
+    (request_segment new h n k e (serves_keeps old new h n k st e is d))
 turned_keeps old new h End st is d =
     assemble old new h End st is
     (record { settings = d.settings; pushes = ap (λ (x : Progress). x.pushes) d.progress; time = ap (λ (x : Progress). x.time) d.progress; latency = ap (λ (x : Progress). x.latency) d.progress; flushing = ap (λ (x : Progress). x.flushing) d.progress; ended = ap (λ (x : Progress). x.ended) d.progress; aside = d.aside })
@@ -239,7 +314,7 @@ turned_keeps old new h (Idle wake) st is d =
 turned_keeps old new h Flushing st is d =
     assemble old new h Flushing st is (alone old new d.settings d.progress d.aside) (ap (λ (x : Progress). x.end_told) d.progress ∙ st.order.told_is) (left_alone old new h d.settings d.segment st)
 
-pub turn_keeps : (old new : State) (h : History) (r : Turn) → StandsFor old h → r ≡ plain_turn (state_sight old) old.span.next → TurnDoes old r new → StandsFor new (Turned r ∷ h)
+pub turn_keeps : (old new : State) (h : History) (r : Turn) → StandsFor old h → r ≡ state_turn old → TurnDoes old r new → StandsFor new (Turned r ∷ h)
 turn_keeps old new h r st value does = turned_keeps old new h r st (value ∙ turn_is old h st) does
 
 -- a quiet turn changes nothing
@@ -254,7 +329,7 @@ quiet_keeps old new h Flushing st does i = same_keeps old new h st does
 pub does_progress : (old new : State) (r : Turn) → TurnDoes old r new → (new.settings ≡ old.settings) × (new.progress.time ≡ old.progress.time) × (new.progress.pushes ≡ old.progress.pushes)
 does_progress old new (Packet n pts p) d = (d.settings, ap (λ (x : Progress). x.time) d.progress, ap (λ (x : Progress). x.pushes) d.progress)
 does_progress old new (Lost n count pts e) d = (d.settings, ap (λ (x : Progress). x.time) d.progress, ap (λ (x : Progress). x.pushes) d.progress)
-does_progress old new (Request n k) d = absurd d
+does_progress old new (Request n k) d = (d.settings, ap (λ (x : Progress). x.time) d.progress, ap (λ (x : Progress). x.pushes) d.progress)
 does_progress old new End d = (d.settings, ap (λ (x : Progress). x.time) d.progress, ap (λ (x : Progress). x.pushes) d.progress)
 does_progress old new (Idle wake) d = (d.settings, ap (λ (x : Progress). x.time) d.progress, ap (λ (x : Progress). x.pushes) d.progress)
 does_progress old new Flushing d = (d.settings, ap (λ (x : Progress). x.time) d.progress, ap (λ (x : Progress). x.pushes) d.progress)

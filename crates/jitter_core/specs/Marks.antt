@@ -1,7 +1,8 @@
 -- The heights that a buffer keeps, the greatest first.
-use Rattle.std.specs.Prelude.{ℕ, ◌+◌, ◌==◌, ◌^◌, ◌≤◌, ◌<◌, Bool, false, List, [], ◌∷◌, Option, Some, None, nat_le, length, slice_index_or, if◌then◌else◌}
+use Rattle.std.specs.Prelude.{ℕ, ◌+◌, ◌==◌, ◌&&◌, ◌^◌, ◌≤◌, ◌<◌, Bool, false, List, [], ◌∷◌, Option, Some, None, nat_le, length, slice_index_or, if◌then◌else◌}
 use Rattle.jitter_model.specs.declared.Mark.{Mark}
 use Rattle.jitter_model.specs.Times.{expected, expected_below}
+use Rattle.jitter_model.specs.Requests.{spacing, is_spacing}
 
 -- a height before these
 abbrev pub from_mark : Option ℕ → Mark → List Mark → List Mark
@@ -32,6 +33,12 @@ with_mark next (Some m) ms = m ∷ before_another next ms
 abbrev pub is_next_mark : List Mark → ℕ → Bool
 is_next_mark [] n = false
 is_next_mark (m ∷ ms) n = n == m.number + 1
+
+-- when the packet after the greatest number is due by the spacing of the last two heights, where that number is the latest one's
+abbrev pub next_time : ℕ → List Mark → Option ℕ
+next_time top [] = None
+next_time top (b ∷ []) = None
+next_time top (b ∷ a ∷ ms) = if b.number == top && is_spacing (spacing a b) then Some (b.pts + spacing a b) else None
 
 -- the expected time of n below this height, or below none
 abbrev pub expected_after : Option Mark → List Mark → ℕ → ℕ

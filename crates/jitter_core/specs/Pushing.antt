@@ -1,17 +1,18 @@
 -- What a push does to a state.
-use Rattle.std.specs.Prelude.{ℕ, ◌+◌, ◌≡◌, ◌++◌, Bool, false, List, ◌∷◌, max, None, is_some, slice_index_or, if◌then◌else◌}
+use Rattle.std.specs.Prelude.{ℕ, ◌+◌, ◌==◌, ◌&&◌, ◌≡◌, ◌++◌, unwrap_or, Bool, true, false, List, ◌∷◌, max, None, is_some, slice_index_or, if◌then◌else◌}
 use Rattle.std.specs.FinMap as map
 use Rattle.jitter_model.specs.declared.Arrival.{Arrival}
 use Rattle.jitter_model.specs.declared.Pushed.{Pushed}
 use Rattle.jitter_model.specs.declared.Verdict.{Verdict}
 use Rattle.jitter_model.specs.declared.Verdict.TheVariants.{Accepted, Restart, Late, Duplicate, Full}
-use Rattle.jitter_model.specs.Accepted.{opened, run_after}
+use Rattle.jitter_model.specs.Accepted.{is_original, opened, run_after}
+use Rattle.jitter_core.specs.Marks.{is_next_mark}
 use Rattle.jitter_model.specs.Verdicts.{View, is_late, is_full, first_fit, told_number, opened_number, aside_dropped, back_of}
 use Rattle.jitter_core.specs.declared.state.Progress.{Progress}
 use Rattle.jitter_core.specs.declared.state.Span.{Span}
 use Rattle.jitter_core.specs.declared.state.State.{State}
 use Rattle.jitter_core.specs.Asides.{in_order, newest_first}
-use Rattle.jitter_core.specs.Parts.{Placed, Clocked, Marked}
+use Rattle.jitter_core.specs.Parts.{Placed, Clocked, Marked, Requested}
 use Rattle.jitter_core.specs.Steps.{Accepts, LeavesSegment, run_of, state_number}
 
 -- what a verdict goes by, by the state
@@ -50,6 +51,7 @@ pub record IsOpenedBy (s : State) (run : List Arrival) : Type 0 where
   pub placed : Placed s (opened run) None (λ q. false)
   pub clocked : Clocked s (opened run)
   pub marked : Marked s (opened run) None
+  pub requested : Requested s (opened run) None (λ q. 0)
 
 -- while a segment is being opened: the packets that opened it so far, and those that are still to be accepted, are all of these
 pub record Opening (s : State) (rest : List (ℕ × Arrival)) (all : List Arrival) : Type 0 where
@@ -62,6 +64,16 @@ abbrev pub SegmentAfter : State → Arrival → Verdict → State → Type 0
 SegmentAfter old a Accepted new = Accepts old new a (state_number old a)
 SegmentAfter old a (Restart dropped) new = IsOpenedBy new (a ∷ run_of old)
 SegmentAfter old a v new = LeavesSegment old new
+
+-- whether the packet is an original one above the greatest number, which is the latest height
+abbrev pub follows_top : State → Arrival → Bool
+follows_top s a = is_original a.origin && is_some s.span.top && state_number s a == unwrap_or s.span.top 0 + 1 && is_next_mark s.heights (unwrap_or s.span.top 0 + 1)
+
+-- whether a push with this verdict changes what is accepted
+abbrev pub takes : Verdict → Bool
+takes Accepted = true
+takes (Restart dropped) = true
+takes v = false
 
 -- a push, with its answer
 pub record PushStep (old new : State) (a : Arrival) (p : Pushed) : Type 0 where

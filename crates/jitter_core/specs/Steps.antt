@@ -1,5 +1,5 @@
 -- What a state leaves room for, and what it takes to accept a packet.
-use Rattle.std.specs.Prelude.{ℕ, ◌+◌, ◌≡◌, ◌<◌, ◌≤◌, ◌^◌, ◌&&◌, Bool, true, false, List, [], ◌∷◌, length, max, min, Option, Some, None, IsSome, unwrap_or, is_some, if◌then◌else◌}
+use Rattle.std.specs.Prelude.{⊤, ℕ, ◌+◌, ◌≡◌, ◌<◌, ◌≤◌, ◌^◌, ◌&&◌, Bool, true, false, List, [], ◌∷◌, length, max, min, Option, Some, None, IsSome, unwrap_or, is_some, if◌then◌else◌}
 use Rattle.std.specs.Option.{ForSome}
 use Rattle.std.specs.FinMap as map
 use Rattle.rtp_units.specs.declared.Mode.{Mode}
@@ -14,6 +14,7 @@ use Rattle.jitter_core.specs.declared.state.Span.{Span}
 use Rattle.jitter_core.specs.declared.state.State.{State}
 use Rattle.jitter_core.specs.Asides.{newest_first}
 use Rattle.jitter_core.specs.Marks.{AreMarksBounded, with_mark, is_next_mark}
+use Rattle.jitter_core.specs.Peaks.{ArePeaksBounded, with_peak, stamp_from}
 
 -- the lowest number that is still to be given out, or that comes
 abbrev pub lowest : Option ℕ → Option ℕ → ℕ → ℕ
@@ -25,16 +26,29 @@ pub record IsFitted (s : State) : Type 0 where
   pub rate : s.skew.rate ≡ s.settings.rate
   pub mode : s.skew.mode ≡ s.settings.mode
 
+-- times that leave room for sums
+pub record IsTimely (s : State) : Type 0 where
+  pub latency : s.progress.latency ≤ 600000000000
+  pub delay : s.settings.rtx_delay ≤ 60000000000
+  pub retry_from : 1 ≤ s.settings.rtx_retry
+  pub retry_to : s.settings.rtx_retry ≤ 60000000000
+
+-- a number above the next one, or any where that isn't known
+abbrev pub IsPast : Option ℕ → ℕ → Type 0
+IsPast None m = ⊤
+IsPast (Some next) m = next < m
+
 -- numbers that leave room for the next steps
 pub record IsBounded (s : State) : Type 0 where
   pub fitted : IsFitted s
-  pub latency : s.progress.latency ≤ 2 ^ 62
+  pub timely : IsTimely s
   pub above : ForSome s.span.top (λ t. 32768 ≤ t)
   pub below : ForSome s.span.top (λ t. t ≤ 2 ^ 61)
   pub least : ForSome s.span.least (λ n. n ≤ 2 ^ 61)
   pub next : ForSome s.span.next (λ n. n ≤ 2 ^ 61)
   pub first : ForSome s.span.first_pts (λ t. t < 2 ^ 63)
   pub window : ForSome s.span.next (λ n. unwrap_or s.span.top 0 < n + 8192)
+  pub next_top : ForSome s.span.next (λ n. n ≤ unwrap_or s.span.top 0 + 1)
   pub first_window : s.span.next ≡ None → unwrap_or s.span.top 0 < unwrap_or s.span.least 0 + 8192
   pub least_known : is_some s.span.least ≡ is_some s.span.top
   pub next_known : is_some s.span.next ≡ true → is_some s.span.top ≡ true
@@ -44,6 +58,11 @@ pub record IsBounded (s : State) : Type 0 where
   pub few : s.skew.heights < 2 ^ 31
   pub heights : AreMarksBounded s.heights
   pub room : length s.heights ≤ 8192
+  pub stamps : ArePeaksBounded s.peaks
+  pub peaks_room : length s.peaks ≤ 8192
+  pub places : length s.served ≡ 16384
+  pub reach : (m : ℕ) → IsPast s.span.next m → is_some s.span.top ≡ true → m ≤ unwrap_or s.span.top 0 → is_some (stamp_from s.peaks m) ≡ true
+  pub top_held : (t : ℕ) → s.span.top ≡ Some t → is_late s.span.next t ≡ false → is_some (map.get s.held t) ≡ true
   pub held_from : (q : ℕ) → IsSome (map.get s.held q) → (is_late s.span.next q ≡ false) × (unwrap_or s.span.least 0 ≤ q)
   pub held_to : (q : ℕ) → IsSome (map.get s.held q) → (is_some s.span.top ≡ true) × (q ≤ unwrap_or s.span.top 0)
 
@@ -108,6 +127,8 @@ pub record Accepts (old new : State) (a : Arrival) (n : ℕ) : Type 0 where
   pub span : new.span ≡ accepted_span old.span n pts
   pub held : new.held ≡ map.insert old.held n (record { pts = pts; packet = a.packet })
   pub heights : new.heights ≡ with_mark old.span.next (mark_with old.span.top a n pts) old.heights
+  pub peaks : new.peaks ≡ with_peak old.span.top old.span.next n a.stamp old.peaks
+  pub served : new.served ≡ old.served
   pub timed : Timed old.skew new.skew old.span.top old.heights a n pts
 
 -- nothing of the segment was changed
@@ -116,6 +137,8 @@ pub record LeavesSegment (old new : State) : Type 0 where
   pub held : new.held ≡ old.held
   pub skew : new.skew ≡ old.skew
   pub heights : new.heights ≡ old.heights
+  pub peaks : new.peaks ≡ old.peaks
+  pub served : new.served ≡ old.served
 
 -- nothing was changed
 pub record IsSame (old new : State) : Type 0 where

@@ -1,13 +1,17 @@
 -- What a turn goes by and what it does to a state.
-use Rattle.std.specs.Prelude.{ℕ, ◌+◌, ◌-◌, ◌==◌, ◌≡◌, ◌||◌, ◌&&◌, not, Bool, true, false, List, Option, Some, None, is_some, unwrap_or, slice_index_or, if◌then◌else◌}
+use Rattle.std.specs.Prelude.{ℕ, ◌+◌, ◌-◌, ◌==◌, ◌≡◌, ◌||◌, ◌&&◌, not, Bool, true, false, List, Option, Some, is_some, unwrap_or, slice_index_or, if◌then◌else◌}
 use Rattle.std.specs.FinMap as map
 use Rattle.jitter_model.specs.declared.Turn.{Turn}
 use Rattle.jitter_model.specs.declared.Turn.TheVariants.{Packet, Lost, Request, End, Idle, Flushing}
 use Rattle.jitter_model.specs.History.{is_pusher, all_below, pusher_count}
-use Rattle.jitter_model.specs.Requests.{lesser, later}
-use Rattle.jitter_model.specs.Turns.{Sight, low, loss_end, may_give, is_lost, is_done, output_wake, packet_turn, lost_turn, left_by}
+use Rattle.jitter_model.specs.declared.Settings.{Settings}
+use Rattle.jitter_model.specs.Requests.{lesser, later, Asked}
+use Rattle.jitter_model.specs.Turns.{Sight, low, loss_end, may_give, is_lost, is_done, output_wake, asked, request_wake_from, packet_turn, lost_turn, turn_by, left_by}
 use Rattle.jitter_core.specs.declared.state.State.{State}
 use Rattle.jitter_core.specs.Marks.{kept_two}
+use Rattle.jitter_core.specs.Peaks.{above}
+use Rattle.jitter_core.specs.Requesting.{first_due_by}
+use Rattle.jitter_core.specs.Served.{served_in, with_served}
 use Rattle.jitter_core.specs.Steps.{LeavesSegment, IsSame}
 
 -- whether each pusher of the set ended, by these marks
@@ -34,8 +38,8 @@ state_sight s =
       among = λ n. is_some (map.get s.held n);
       held = map.get s.held;
       marks = s.heights;
-      first_due = λ n. None;
-      served = λ n. 0;
+      first_due = first_due_by s.settings s.peaks;
+      served = served_in s.served;
     }
 
 -- the reply to a turn that serves no request, where the next request is due at this time
@@ -46,9 +50,21 @@ output_turn v next wake =
     else if v.ended && is_done v next && not v.told then End
     else Idle (lesser (output_wake v next) wake)
 
--- the reply to a turn where there are no requests
-abbrev pub plain_turn : Sight → Option ℕ → Turn
-plain_turn v next = if v.flushing then Flushing else output_turn v next None
+-- when the next request is due
+abbrev pub next_wake : Settings → Sight → Option ℕ → Option ℕ
+next_wake s v next = request_wake_from s v (low v next) (v.top + 2 - low v next)
+
+-- when the next request is due, by the state
+abbrev pub state_wake : State → Option ℕ
+state_wake s = next_wake s.settings (state_sight s) s.span.next
+
+-- the request that is answered, by the state
+abbrev pub state_asked : State → Option Asked
+state_asked s = asked s.settings (state_sight s) s.span.next
+
+-- the reply to a turn, by the state
+abbrev pub state_turn : State → Turn
+state_turn s = turn_by s.settings (state_sight s) s.span.next
 
 -- the packet with this number was given out
 pub record Gives (old new : State) (n : ℕ) : Type 0 where
@@ -59,6 +75,8 @@ pub record Gives (old new : State) (n : ℕ) : Type 0 where
   pub held : new.held ≡ map.remove old.held n
   pub skew : new.skew ≡ old.skew
   pub heights : new.heights ≡ kept_two (Some (n + 1)) old.heights
+  pub peaks : new.peaks ≡ above (n + 1) old.peaks
+  pub served : new.served ≡ old.served
 
 -- the numbers up to m were given up
 pub record Loses (old new : State) (m : ℕ) : Type 0 where
@@ -69,6 +87,20 @@ pub record Loses (old new : State) (m : ℕ) : Type 0 where
   pub held : new.held ≡ old.held
   pub skew : new.skew ≡ old.skew
   pub heights : new.heights ≡ kept_two (Some m) old.heights
+  pub peaks : new.peaks ≡ above m old.peaks
+  pub served : new.served ≡ old.served
+
+-- request k of a number was served
+pub record Serves (old new : State) (n k : ℕ) : Type 0 where
+  pub settings : new.settings ≡ old.settings
+  pub progress : new.progress ≡ old.progress
+  pub aside : new.aside ≡ old.aside
+  pub span : new.span ≡ old.span
+  pub held : new.held ≡ old.held
+  pub skew : new.skew ≡ old.skew
+  pub heights : new.heights ≡ old.heights
+  pub peaks : new.peaks ≡ old.peaks
+  pub served : new.served ≡ with_served old.served n (k + 1)
 
 -- the end was told
 pub record TellsEnd (old new : State) : Type 0 where
@@ -77,11 +109,16 @@ pub record TellsEnd (old new : State) : Type 0 where
   pub aside : new.aside ≡ old.aside
   pub segment : LeavesSegment old new
 
+-- whether a reply is that there is nothing to do
+abbrev pub is_idle : Turn → Bool
+is_idle (Idle wake) = true
+is_idle _ = false
+
 -- what a turn with this reply does
 abbrev pub TurnDoes : State → Turn → State → Type 0
 TurnDoes old (Packet n pts p) new = Gives old new n
 TurnDoes old (Lost n count pts d) new = Loses old new (n + count)
-TurnDoes old (Request n k) new = ⊥
+TurnDoes old (Request n k) new = Serves old new n k
 TurnDoes old End new = TellsEnd old new
 TurnDoes old (Idle wake) new = IsSame old new
 TurnDoes old Flushing new = IsSame old new

@@ -1,18 +1,24 @@
 //! The buffer.
 
 ghost use Rattle.jitter_core.specs.Stands.{IsReached};
+ghost use Rattle.jitter_core.specs.Scheduling.{IsTimed};
 
 use crate::flushing::{report_on, start_flush, stop_flush};
 use crate::heights::Heights;
+use crate::peaks::Peaks;
 use crate::pushing::push_on;
+use crate::schedule::Schedule;
+use crate::served::Served;
 use crate::state::{Progress, Span, State};
 use crate::timing::{delay, end_pusher, pass_time};
 use crate::turning::{have_all_ended, turn_on};
 use jitter_model::{Arrival, Held, Pushed, Settings, Turn};
+use jitter_timers::{Steps, TimerQueue};
 use packet_store::{AsideList, Store};
 use rtp_units::{OutOfMemory, SyncInfo};
 use skew_estimator::Skew;
 use std::alloc::Global;
+use std::sync::ledger::Ledger;
 
 /// Holds the packets of one source and gives them out in order.
 ///
@@ -22,26 +28,27 @@ use std::alloc::Global;
 #[derive(Drop)]
 pub struct Buffer {
     state: State,
+    schedule: Schedule,
     ghost reached: { IsReached state },
+    ghost timed: { IsTimed state schedule },
 }
 
 impl Buffer {
-    ghost use Rattle.std.specs.Prelude.{◌≡◌, ◌<◌, ◌≤◌, ◌^◌, ◌+◌, ℕ, max, true, false, [], ◌∷◌, IfOk};
+    ghost use Rattle.std.specs.Prelude.{◌≡◌, ◌<◌, ◌≤◌, ◌^◌, ◌+◌, ◌*◌, ℕ, max, true, false, [], ◌∷◌, IfOk};
     ghost use Rattle.std.specs.FinMap as map;
     ghost use Rattle.jitter_model.specs.declared.Entry.TheVariants.{Push, Clock, FlushStart, FlushStop, Latency, Report, Ends, Turned};
     ghost use Rattle.jitter_model.specs.History.{History, pushes, is_pusher, all_ended};
     ghost use Rattle.jitter_model.specs.Verdicts.{pushed as reply_to_push};
     ghost use Rattle.jitter_model.specs.Times.{held};
-    ghost use Rattle.jitter_model.specs.Turns.{turn, is_quiet, wake_of};
+    ghost use Rattle.jitter_model.specs.Turns.{turn, is_quiet, wake_of, next_request};
     ghost use Rattle.jitter_model.specs.Runs.{IsValid, flush_count, report};
     ghost use Rattle.jitter_model.specs.Laws.{IsLater};
-    ghost use Rattle.jitter_core.specs.Stands.{IsBuilt};
-    ghost use Rattle.jitter_core.specs.Words.{Stands, settings_of, pushes_of, left_of, now_of};
+    ghost use Rattle.jitter_core.specs.Turning.{is_idle};
+    ghost use Rattle.jitter_core.specs.Words.{Stands, settings_of, pushes_of, left_of, now_of, timers_of, gaps};
 
     /// An empty buffer, or an error where there is no memory for it.
     pub fn new(alloc: Global, settings: &Settings) -> Result<Buffer, OutOfMemory>
-        requires valid { IsValid settings.now }
-        requires built { IsBuilt settings.now }
+        requires { IsValid settings.now }
         ensures settings { IfOk result (λ b. settings_of b ≡ settings.now) }
         ensures pushes { IfOk result (λ b. pushes_of b ≡ 0) }
         ensures time { IfOk result (λ b. now_of b ≡ 0) }
@@ -49,6 +56,9 @@ impl Buffer {
     {
         let held = Store::new(alloc)?;
         let heights = Heights::new(alloc)?;
+        let peaks = Peaks::new(alloc)?;
+        let served = Served::new(alloc)?;
+        let schedule = Schedule::new(alloc)?;
         let skew = Skew::new(alloc, settings.rate, settings.mode)?;
         Ok(Buffer {
             state: State {
@@ -70,9 +80,12 @@ impl Buffer {
                 },
                 skew,
                 heights,
+                peaks,
+                served,
                 held,
                 aside: AsideList::new(),
             },
+            schedule,
         })
     }
 
@@ -84,8 +97,8 @@ impl Buffer {
         self.state.progress.pushes
     }
 
-    /// Takes a packet in, and says what became of it.
-    pub fn push(&mut self, a: Arrival) -> Pushed
+    /// Takes a packet in, and says what became of it. It makes at most 42 steps; a step is one move of a timer.
+    pub fn push<L: Ledger>(&mut self, a: Arrival, steps: &mut Steps<L>) -> Pushed
         requires pusher { is_pusher (settings_of self.old).pushers a.pusher ≡ true }
         requires stamp { a.stamp < 2 ^ 63 }
         requires few { pushes_of self.old < 2 ^ 31 }
@@ -94,12 +107,15 @@ impl Buffer {
         ensures time { now_of self.new ≡ max a.stamp (now_of self.old) }
         ensures value { (h : History) → Stands self.old h → result ≡ reply_to_push (settings_of self.old) h a }
         ensures stands { (h : History) → Stands self.old h → Stands self.new (Push a result.verdict result.number result.aside_dropped ∷ h) }
+        ensures quick { (h : History) → Stands self.old h → steps.new ≤ steps.old + 64 * (gaps (settings_of self.old) h + 2) }
+        ensures few_steps { steps.new ≤ steps.old + 42 }
     {
-        push_on(&mut self.state, a)
+        push_on(&mut self.state, &mut self.schedule, a, steps)
     }
 
-    /// Takes a turn: gives out one packet, gives up numbers, or says what there is to wait for.
-    pub fn turn(&mut self) -> Turn
+    /// Takes a turn: requests or gives out one packet, gives up numbers, or says what there is to wait for. It makes at
+    /// most 64 steps for each number that is missing, and 128 more; a step is one move of a timer.
+    pub fn turn<L: Ledger>(&mut self, steps: &mut Steps<L>) -> Turn
         ensures settings { settings_of self.new ≡ settings_of self.old }
         ensures same { pushes_of self.new ≡ pushes_of self.old }
         ensures time { now_of self.new ≡ now_of self.old }
@@ -108,8 +124,10 @@ impl Buffer {
         ensures quiet { is_quiet result ≡ true → (h : History) → Stands self.old h → Stands self.new h }
         ensures left { is_quiet result ≡ false → left_of self.new < left_of self.old }
         ensures later { IsLater (now_of self.old) (wake_of result) }
+        ensures timers { is_idle result ≡ true → (h : History) → Stands self.old h → (n : ℕ) → map.get (timers_of self.new).times n ≡ next_request (settings_of self.old) h n }
+        ensures quick { (h : History) → Stands self.old h → steps.new ≤ steps.old + 64 * (gaps (settings_of self.old) h + 2) }
     {
-        turn_on(&mut self.state)
+        turn_on(&mut self.state, &mut self.schedule, steps)
     }
 
     /// Lets time pass up to `t`, which is below 2^63 + 2^50.
@@ -131,6 +149,7 @@ impl Buffer {
         ensures value { (h : History) → Stands self.old h → result ≡ flush_count h }
         ensures stands { (h : History) → Stands self.old h → Stands self.new (FlushStart result ∷ h) }
     {
+        self.schedule.stale = true;
         start_flush(&mut self.state)
     }
 
@@ -153,6 +172,7 @@ impl Buffer {
         ensures stands { (h : History) → Stands self.old h → Stands self.new (Latency ns ∷ h) }
     {
         delay(&mut self.state, ns);
+        self.schedule.stale = true;
     }
 
     /// The presentation time of the RTP timestamp of a sender report (RFC 3550, section 6.4.1), with the
@@ -173,6 +193,7 @@ impl Buffer {
         ensures stands { (h : History) → Stands self.old h → Stands self.new (Ends pusher ∷ h) }
     {
         end_pusher(&mut self.state, pusher);
+        self.schedule.stale = true;
     }
 
     /// Whether all pushers ended.
@@ -187,5 +208,13 @@ impl Buffer {
         ensures { (h : History) → Stands self.now h → (n : ℕ) → map.get result.now n ≡ held (settings_of self.now) h n }
     {
         &self.state.held
+    }
+
+    /// The timers of requests. After a turn that is answered `Idle` they are exactly the numbers that have a request
+    /// still to come, each with the time at which its next one is due.
+    pub fn timers(&self) -> &TimerQueue
+        ensures { result.now ≡ timers_of self.now }
+    {
+        &self.schedule.timers
     }
 }

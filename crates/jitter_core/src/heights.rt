@@ -3,8 +3,10 @@
 ghost use Rattle.std.specs.Prelude.{◌≡◌, ◌<◌, ◌≤◌, ◌^◌, ◌+◌, ◌*◌, Some, None, pos, negsuc, ◌+ℤ◌, ◌-ℤ◌, ◌*ℤ◌, ◌≤ℤ◌, int_div, length, [], ◌∷◌, IfOk, List};
 ghost use Rattle.std.specs.VecDeque.{deque_len, deque_capacity};
 ghost use Rattle.jitter_model.specs.Times.{expected, between};
+ghost use Rattle.jitter_model.specs.Requests.{spacing};
 ghost use Rattle.rtp_units.specs.Numbers.{hold};
-ghost use Rattle.jitter_core.specs.Marks.{kept_two, before_another, is_next_mark, AreMarksBounded};
+ghost use Rattle.std.specs.Option.{ForSome};
+ghost use Rattle.jitter_core.specs.Marks.{kept_two, before_another, is_next_mark, next_time, AreMarksBounded};
 
 use jitter_model::Mark;
 use rtp_units::{OutOfMemory, held_to_time};
@@ -14,6 +16,9 @@ use std::marker::Model;
 
 // One more than the numbers of a window, which is the most heights that are kept.
 const ROOM: usize = 8_193;
+
+// The longest spacing that tells when a packet is due: 10 seconds.
+const LONGEST_SPACING: u64 = 10_000_000_000;
 
 /// Heights, the greatest first, each with its presentation time. Only `new` takes memory.
 #[derive(Drop)]
@@ -101,6 +106,34 @@ fn expected_by(marks: &VecDeque<Mark>, n: u64) -> u64
     }
 }
 
+/// The time from one number to the next between two neighbouring heights, cut towards zero.
+fn spacing_of(a: &Mark, b: &Mark) -> u64
+    ensures { result ≡ spacing a.now b.now }
+{
+    if b.number <= a.number {
+        return 0;
+    }
+    b.pts.saturating_sub(a.pts) / (b.number - a.number)
+}
+
+/// When the packet after `top` is due by the spacing of the last two heights, where `top` is the latest one.
+fn time_after(marks: &VecDeque<Mark>, top: u64) -> Option<u64>
+    requires { AreMarksBounded marks.now.items }
+    ensures value { result ≡ next_time top marks.now.items }
+    ensures small { ForSome result (λ t. t < 2 ^ 63 + 2 ^ 34) }
+{
+    if marks.len() < 2 {
+        return None;
+    }
+    let latest = marks[0];
+    let spacing = spacing_of(&marks[1], &latest);
+    if latest.number == top && 1 <= spacing && spacing <= LONGEST_SPACING {
+        Some(latest.pts + spacing)
+    } else {
+        None
+    }
+}
+
 /// Drops all heights but the latest where that one isn't above `next`.
 fn cut_to(marks: &mut VecDeque<Mark>, next: u64)
     ensures items { marks.new.items ≡ before_another (Some next) marks.old.items }
@@ -168,6 +201,15 @@ impl Heights {
         ensures small { result < 2 ^ 63 }
     {
         expected_by(&self.marks, n)
+    }
+
+    /// When the packet after `top` is due by the spacing of the last two heights, where `top` is the latest one.
+    pub fn next_time(&self, top: u64) -> Option<u64>
+        requires { AreMarksBounded self.now }
+        ensures value { result ≡ next_time top self.now }
+        ensures small { ForSome result (λ t. t < 2 ^ 63 + 2 ^ 34) }
+    {
+        time_after(&self.marks, top)
     }
 
     /// Drops the heights that no number from `next` on needs, but for the last two.

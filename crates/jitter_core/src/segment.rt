@@ -7,9 +7,11 @@ ghost use Rattle.jitter_model.specs.Verdicts.{opened_number};
 ghost use Rattle.jitter_model.proofs.Numbered.{IsRun};
 ghost use Rattle.jitter_core.specs.Asides.{in_order, newest_first};
 ghost use Rattle.jitter_core.specs.Steps.{IsBounded, IsFitted, CanAccept, Accepts, accepted_span, lowest, run_of, state_number};
+ghost use Rattle.jitter_core.specs.Peaks.{with_peak};
 ghost use Rattle.jitter_core.specs.Pushing.{IsOpenedBy};
 
-use crate::placing::{add_mark, place};
+use crate::peaks::{Peak, Peaks};
+use crate::placing::{add_mark, is_above, place};
 use crate::state::{Span, State};
 use crate::verdicts::number_of;
 use jitter_model::{Arrival, Held};
@@ -26,6 +28,8 @@ pub fn clear_segment(state: &mut State)
 {
     state.held.discard_all();
     state.heights.clear();
+    state.peaks.clear();
+    state.served.clear();
     state.skew.reset();
     state.span = Span {
         next: None,
@@ -74,6 +78,16 @@ fn hold(store: &mut Store<Held>, low: u64, number: u64, held: Held)
     }
 }
 
+/// Adds the packet to the peaks, if it is one.
+fn add_peak(peaks: &mut Peaks, span: &Span, number: u64, stamp: u64)
+    requires { length peaks.old ≤ 8192 }
+    ensures { peaks.new ≡ with_peak span.now.top span.now.next number stamp peaks.old }
+{
+    if is_above(span.top, number) {
+        peaks.add(span.next, Peak { number, stamp });
+    }
+}
+
 /// Accepts a packet.
 pub fn accept(state: &mut State, number: u64, a: Arrival)
     requires bounded { IsBounded state.old }
@@ -85,6 +99,7 @@ pub fn accept(state: &mut State, number: u64, a: Arrival)
     ensures segment { Accepts state.old state.new a number }
 {
     let span = state.span;
+    let stamp = a.stamp;
     let place = place(&mut state.skew, span.top, &state.heights, &a, number);
     let low = lowest_with(&span, number);
     let held = Held {
@@ -93,6 +108,7 @@ pub fn accept(state: &mut State, number: u64, a: Arrival)
     };
     hold(&mut state.held, low, number, held);
     add_mark(&mut state.heights, span.next, place.mark);
+    add_peak(&mut state.peaks, &span, number, stamp);
     state.span = span_with(&span, number, place.pts);
 }
 

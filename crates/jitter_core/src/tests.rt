@@ -1,16 +1,21 @@
-//! Worked rows, driven through a buffer.
+//! The worked rows, driven through a buffer.
 
-ghost use Rattle.std.specs.Prelude.{◌≡◌};
-ghost use Rattle.jitter_core.specs.Words.{settings_of};
+ghost use Rattle.std.specs.Prelude.{◌≡◌, ◌<◌, ◌≤◌, ◌+◌};
+ghost use Rattle.jitter_model.specs.Runs.{IsValid};
+ghost use Rattle.jitter_core.specs.Words.{settings_of, pushes_of};
 
-use crate::Buffer;
-use jitter_model::{Arrival, Origin, Packet, Settings, Turn, Verdict};
-use rtp_units::{Blob, Mode};
+use crate::{Buffer, rows};
+use jitter_model::{Arrival, Origin, Packet, Pushed, Settings, Turn, Verdict};
+use jitter_timers::Steps;
+use rtp_units::{Blob, Mode, OutOfMemory};
+use std::alloc::Global;
+use std::marker::Brand;
+use std::sync::ledger::{Blank, Ledger};
 use std::test::*;
 
 const SETTINGS: Settings = Settings {
     rate: 90_000,
-    mode: Mode::Plain,
+    mode: Mode::Slave,
     latency: 100_000_000,
     rtx: false,
     rtx_delay: 20_000_000,
@@ -23,24 +28,32 @@ const SETTINGS: Settings = Settings {
     pushers: 257,
 };
 
-/// A call, with times in milliseconds.
+/// A call. Stamps and latencies are in milliseconds, clock times in nanoseconds.
 #[derive(Clone, Copy)]
-enum Call {
-    Push { seq: u16, ms: u32, rtp: u32 },
-    Clock { ms: u32 },
+pub enum Call {
+    /// An original: its sequence number, stamp, timestamp and payload's length.
+    Push(u16, u16, u32, u16),
+    /// The same of a retransmission.
+    Again(u16, u16, u32, u16),
+    Clock(u32),
     Turn,
     FlushStart,
     FlushStop,
+    Latency(u16),
     EndAll,
 }
 
 /// What a call answers.
 #[derive(Clone, Copy, Debug, PartialEq, Eq)]
-enum Answer {
-    Pushed(Verdict, u64),
-    Packet(u64, u64),
-    Lost(u64, u32),
-    Request(u64),
+pub enum Answer {
+    /// The verdict, the number, and how many packets that were put aside it dropped.
+    Pushed(Verdict, u64, u8),
+    /// The number, the presentation time and the payload's length.
+    Packet(u64, u64, u16),
+    /// The first number, how many, their time and their duration.
+    Lost(u64, u32, u64, u64),
+    /// The number, and which request it is.
+    Request(u64, u8),
     End,
     Idle(Option<u64>),
     Flushing,
@@ -53,55 +66,112 @@ fn told(turn: Turn) -> Answer {
         Turn::Packet {
             number,
             pts,
-            packet: _,
-        } => Answer::Packet(number, pts),
+            packet,
+        } => Answer::Packet(number, pts, packet.payload),
         Turn::Lost {
             number,
             count,
-            pts: _,
-            duration: _,
-        } => Answer::Lost(number, count),
-        Turn::Request { number, k: _ } => Answer::Request(number),
+            pts,
+            duration,
+        } => Answer::Lost(number, count, pts, duration),
+        Turn::Request { number, k } => Answer::Request(number, k),
         Turn::End => Answer::End,
         Turn::Idle { wake } => Answer::Idle(wake),
         Turn::Flushing => Answer::Flushing,
     }
 }
 
-fn take(rt: &HostRuntime, buffer: &mut Buffer, call: Call) -> Result<Answer, Fail>
+fn packet(alloc: Global, seq: u16, rtp: u32, payload: u16) -> Result<Packet, OutOfMemory> {
+    Ok(Packet {
+        seq,
+        rtp,
+        pt: 96,
+        marker: false,
+        payload,
+        bytes: Blob::copy_of(alloc, &[1, 2, 3, 4])?,
+    })
+}
+
+/// Pushes a packet, in at most 192 steps.
+fn push<L: Ledger>(buffer: &mut Buffer, a: Arrival, steps: &mut Steps<L>) -> Pushed
+    requires pushers { (settings_of buffer.old).pushers ≡ 257 }
+    requires pusher { a.pusher ≡ 0 }
+    requires stamp { a.stamp < 1000000000000 }
+    requires few { pushes_of buffer.old < 10000 }
+    ensures pushers { (settings_of buffer.new).pushers ≡ 257 }
+    ensures count { pushes_of buffer.new ≡ pushes_of buffer.old + 1 }
+    ensures quick { steps.new ≤ steps.old + 192 }
+{
+    buffer.push(a, steps)
+}
+
+fn arrive<L: Ledger>(
+    buffer: &mut Buffer,
+    origin: Origin,
+    stamp: u64,
+    packet: Packet,
+    steps: &mut Steps<L>,
+) -> Answer
+    requires pushers { (settings_of buffer.old).pushers ≡ 257 }
+    requires stamp { stamp < 1000000000000 }
+    ensures { (settings_of buffer.new).pushers ≡ 257 }
+{
+    if buffer.pushed() >= 1000 {
+        return Answer::Nothing;
+    }
+    let arrival = Arrival {
+        pusher: 0,
+        k: 0,
+        stamp,
+        origin,
+        packet,
+    };
+    let pushed = push(buffer, arrival, steps);
+    Answer::Pushed(pushed.verdict, pushed.number, pushed.aside_dropped)
+}
+
+fn take<L: Ledger>(
+    alloc: Global,
+    buffer: &mut Buffer,
+    call: Call,
+    steps: &mut Steps<L>,
+) -> Result<Answer, OutOfMemory>
     requires { (settings_of buffer.old).pushers ≡ 257 }
     ensures { (settings_of buffer.new).pushers ≡ 257 }
 {
     match call {
-        Call::Push { seq, ms, rtp } => {
-            let packet = Packet {
-                seq,
-                rtp,
-                pt: 96,
-                marker: false,
-                payload: 4,
-                bytes: Blob::copy_of(rt.alloc(), &[1, 2, 3, 4])?,
-            };
-            if buffer.pushed() >= 1000 {
-                return Ok(Answer::Nothing);
-            }
-            let pushed = buffer.push(Arrival {
-                pusher: 0,
-                k: 0,
-                stamp: u64::from(ms) * 1_000_000,
-                origin: Origin::Original,
+        Call::Push(seq, ms, rtp, payload) => {
+            let packet = packet(alloc, seq, rtp, payload)?;
+            Ok(arrive(
+                buffer,
+                Origin::Original,
+                u64::from(ms) * 1_000_000,
                 packet,
-            });
-            Ok(Answer::Pushed(pushed.verdict, pushed.number))
+                steps,
+            ))
         }
-        Call::Clock { ms } => {
-            buffer.clock(u64::from(ms) * 1_000_000);
+        Call::Again(seq, ms, rtp, payload) => {
+            let packet = packet(alloc, seq, rtp, payload)?;
+            Ok(arrive(
+                buffer,
+                Origin::Retransmission,
+                u64::from(ms) * 1_000_000,
+                packet,
+                steps,
+            ))
+        }
+        Call::Clock(ns) => {
+            buffer.clock(u64::from(ns));
             Ok(Answer::Nothing)
         }
-        Call::Turn => Ok(told(buffer.turn())),
+        Call::Turn => Ok(told(buffer.turn(steps))),
         Call::FlushStart => Ok(Answer::Dropped(buffer.flush_start())),
         Call::FlushStop => {
             buffer.flush_stop();
+            Ok(Answer::Nothing)
+        }
+        Call::Latency(ms) => {
+            buffer.set_latency(u64::from(ms) * 1_000_000);
             Ok(Answer::Nothing)
         }
         Call::EndAll => {
@@ -113,91 +183,143 @@ fn take(rt: &HostRuntime, buffer: &mut Buffer, call: Call) -> Result<Answer, Fai
 }
 
 /// The place of the first row that is answered otherwise.
-fn first_other(
-    rt: &HostRuntime,
-    mode: Mode,
+fn first_wrong<L: Ledger>(
+    alloc: Global,
+    settings: Settings,
     rows: &[(Call, Answer)],
-) -> Result<Option<usize>, Fail> {
-    let settings = Settings { mode, ..SETTINGS };
-    let mut buffer = Buffer::new(rt.alloc(), &settings)?;
+    blank: Blank,
+) -> Result<Option<usize>, OutOfMemory>
+    requires name { blank.name ≡ L.name }
+    requires parts { blank.parts ≡ L.parts }
+    requires some { 0 < blank.parts }
+    requires settings { IsValid settings }
+    requires pushers { settings.pushers ≡ 257 }
+{
+    let mut steps = Steps::<L>::new(blank);
+    let mut buffer = Buffer::new(alloc, &settings)?;
     for (place, row) in rows.iter().enumerate() {
-        if take(rt, &mut buffer, row.0)? != row.1 {
+        if take(alloc, &mut buffer, row.0, &mut steps)? != row.1 {
             return Ok(Some(place));
         }
     }
     Ok(None)
 }
 
-const fn push(seq: u16, ms: u32, rtp: u32) -> Call {
-    Call::Push { seq, ms, rtp }
+/// The place of the first row that is answered otherwise.
+fn first_other(
+    alloc: Global,
+    settings: Settings,
+    rows: &[(Call, Answer)],
+) -> Result<Option<usize>, OutOfMemory>
+    requires settings { IsValid settings }
+    requires pushers { settings.pushers ≡ 257 }
+{
+    first_wrong::<Brand>(alloc, settings, rows, Blank::new(1))
 }
 
 #[test]
-fn worked_rows(rt: HostRuntime) -> Result<(), Fail> {
-    // a lost packet, a duplicate and a late one, and the end
-    let lost = first_other(
-        &rt,
-        Mode::Plain,
-        &[
-            (push(1, 0, 0), Answer::Pushed(Verdict::Accepted, 65537)),
-            (push(2, 20, 1800), Answer::Pushed(Verdict::Accepted, 65538)),
-            (push(4, 60, 5400), Answer::Pushed(Verdict::Accepted, 65540)),
-            (push(4, 61, 5400), Answer::Pushed(Verdict::Duplicate, 65540)),
-            (Call::Turn, Answer::Idle(Some(100_000_000))),
-            (Call::Clock { ms: 100 }, Answer::Nothing),
-            (Call::Turn, Answer::Packet(65537, 0)),
-            (Call::Turn, Answer::Packet(65538, 20_000_000)),
-            (Call::Turn, Answer::Idle(Some(140_000_000))),
-            (Call::Clock { ms: 140 }, Answer::Nothing),
-            (Call::Turn, Answer::Lost(65539, 1)),
-            (Call::Turn, Answer::Packet(65540, 60_000_000)),
-            (push(3, 140, 3600), Answer::Pushed(Verdict::Late, 65539)),
-            (Call::EndAll, Answer::Nothing),
-            (Call::Turn, Answer::End),
-            (Call::Turn, Answer::Idle(None)),
-            (push(5, 140, 7200), Answer::Pushed(Verdict::Ended, 0)),
-        ],
-    )?;
-    assert_eq!(rt; lost, None);
-    // a new segment after five far packets, and a flush
-    let restarted = first_other(
-        &rt,
-        Mode::Plain,
-        &[
-            (push(10, 0, 0), Answer::Pushed(Verdict::Accepted, 65546)),
-            (push(3011, 10, 900), Answer::Pushed(Verdict::Aside, 68547)),
-            (push(3012, 12, 1080), Answer::Pushed(Verdict::Aside, 68548)),
-            (push(3013, 14, 1260), Answer::Pushed(Verdict::Aside, 68549)),
-            (push(3014, 16, 1440), Answer::Pushed(Verdict::Aside, 68550)),
-            (
-                push(3015, 18, 1620),
-                Answer::Pushed(Verdict::Restart(1), 68551),
-            ),
-            (Call::Clock { ms: 110 }, Answer::Nothing),
-            (Call::Turn, Answer::Packet(68547, 10_000_000)),
-            (Call::FlushStart, Answer::Dropped(4)),
-            (push(1, 120, 0), Answer::Pushed(Verdict::Flushing, 0)),
-            (Call::Turn, Answer::Flushing),
-            (Call::FlushStop, Answer::Nothing),
-            (push(2, 170, 1800), Answer::Pushed(Verdict::Accepted, 65538)),
-            (Call::Turn, Answer::Idle(Some(270_000_000))),
-        ],
-    )?;
-    assert_eq!(rt; restarted, None);
-    // the skew of a sender whose packets come a little late and then early
-    let skewed = first_other(
-        &rt,
-        Mode::Slave,
-        &[
-            (push(1, 0, 0), Answer::Pushed(Verdict::Accepted, 65537)),
-            (push(2, 21, 1800), Answer::Pushed(Verdict::Accepted, 65538)),
-            (push(3, 39, 3600), Answer::Pushed(Verdict::Accepted, 65539)),
-            (Call::Clock { ms: 100 }, Answer::Nothing),
-            (Call::Turn, Answer::Packet(65537, 0)),
-            (Call::Turn, Answer::Packet(65538, 20_000_000)),
-            (Call::Turn, Answer::Packet(65539, 39_999_600)),
-        ],
-    )?;
-    assert_eq!(rt; skewed, None);
+fn packets_in_order(rt: HostRuntime) -> Result<(), Fail> {
+    let alloc = rt.alloc();
+    assert_eq!(rt; first_other(alloc, SETTINGS, &rows::IN_ORDER)?, None);
+    assert_eq!(rt; first_other(alloc, SETTINGS, &rows::WRAP)?, None);
+    assert_eq!(rt; first_other(alloc, SETTINGS, &rows::OLDER)?, None);
+    assert_eq!(rt; first_other(alloc, SETTINGS, &rows::SKEWED)?, None);
+    Ok(())
+}
+
+#[test]
+fn lost_late_and_twice(rt: HostRuntime) -> Result<(), Fail> {
+    let alloc = rt.alloc();
+    assert_eq!(rt; first_other(alloc, SETTINGS, &rows::LOST)?, None);
+    assert_eq!(rt; first_other(alloc, SETTINGS, &rows::LATE)?, None);
+    assert_eq!(rt; first_other(alloc, SETTINGS, &rows::DUPLICATE)?, None);
+    assert_eq!(rt; first_other(alloc, SETTINGS, &rows::SENT_AGAIN)?, None);
+    Ok(())
+}
+
+#[test]
+fn far_packets(rt: HostRuntime) -> Result<(), Fail> {
+    let alloc = rt.alloc();
+    let wide = Settings {
+        dropout: 30_000,
+        ..SETTINGS
+    };
+    assert_eq!(rt; first_other(alloc, SETTINGS, &rows::RESTARTED)?, None);
+    assert_eq!(rt; first_other(alloc, SETTINGS, &rows::AT_DROPOUT)?, None);
+    assert_eq!(rt; first_other(alloc, SETTINGS, &rows::ASIDE_DROPPED)?, None);
+    assert_eq!(rt; first_other(alloc, wide, &rows::FULL)?, None);
+    assert_eq!(rt; first_other(alloc, SETTINGS, &rows::FLUSHED)?, None);
+    Ok(())
+}
+
+#[test]
+fn requests(rt: HostRuntime) -> Result<(), Fail> {
+    let alloc = rt.alloc();
+    let asking = Settings {
+        rtx: true,
+        ..SETTINGS
+    };
+    let in_order = Settings {
+        reorder: 0,
+        ..asking
+    };
+    let once = Settings {
+        rtx_max: 1,
+        ..asking
+    };
+    assert_eq!(rt; first_other(alloc, in_order, &rows::REQUESTED)?, None);
+    assert_eq!(rt;
+        first_other(alloc, asking, &rows::REQUESTED_IN_ORDER)?,
+        None
+    );
+    assert_eq!(rt; first_other(alloc, asking, &rows::REORDERED)?, None);
+    assert_eq!(rt; first_other(alloc, once, &rows::LONGER)?, None);
+    Ok(())
+}
+
+/// Takes turns, and notes the presentation times of two packets.
+fn note_times<L: Ledger>(
+    buffer: &mut Buffer,
+    times: &mut (Option<u64>, Option<u64>),
+    steps: &mut Steps<L>,
+)
+    requires { (settings_of buffer.old).pushers ≡ 257 }
+    ensures { (settings_of buffer.new).pushers ≡ 257 }
+{
+    for _ in 0..128 {
+        match told(buffer.turn(steps)) {
+            Answer::Packet(66_049, pts, _) => times.0 = Some(pts),
+            Answer::Packet(66_050, pts, _) => times.1 = Some(pts),
+            _ => {}
+        }
+    }
+}
+
+/// The presentation times of the two packets after a full window of differences: a packet each millisecond, of which
+/// all but the first come 125 microseconds later.
+fn after_the_window<L: Ledger>(
+    alloc: Global,
+    blank: Blank,
+) -> Result<(Option<u64>, Option<u64>), OutOfMemory>
+    requires name { blank.name ≡ L.name }
+    requires parts { blank.parts ≡ L.parts }
+    requires some { 0 < blank.parts }
+{
+    let mut steps = Steps::<L>::new(blank);
+    let mut buffer = Buffer::new(alloc, &SETTINGS)?;
+    let mut times = (None, None);
+    for i in 0..600u16 {
+        let stamp = u64::from(i) * 1_000_000 + if i == 0 { 0 } else { 125_000 };
+        let packet = packet(alloc, i + 1, u32::from(i) * 90, 4)?;
+        arrive(&mut buffer, Origin::Original, stamp, packet, &mut steps);
+        note_times(&mut buffer, &mut times, &mut steps);
+    }
+    Ok(times)
+}
+
+#[test]
+fn the_window_forgets_its_first_difference(rt: HostRuntime) -> Result<(), Fail> {
+    let times = after_the_window::<Brand>(rt.alloc(), Blank::new(1))?;
+    assert_eq!(rt; times, (Some(512_001_000), Some(513_001_992)));
     Ok(())
 }

@@ -1,5 +1,6 @@
 -- The text of a dump's lines.
-use Rattle.std.specs.Prelude.{ℕ, List, ◌++◌, codes, string_bytes}
+use Rattle.std.specs.Prelude.{ℕ, List, [], ◌∷◌, ◌++◌, codes}
+use Rattle.std.specs.List.{flat_map}
 use Rattle.std.specs.Fmt.{decimal}
 use Rattle.log_text.specs.Text.{ssrc_text, word_text, marker_text}
 use Rattle.timeline.specs.declared.dumped.Ports.{Ports}
@@ -26,14 +27,27 @@ bad_text bad = word_text bad.word ++ codes " " ++ decimal bad.offset
 abbrev pub packet_text : Ports → RtpFacts → List ℕ
 packet_text ports facts = ports_text ports ++ codes " " ++ header_text facts ++ codes " " ++ sizes_text facts
 
+abbrev pub after_comma : ℕ → List ℕ
+after_comma n = codes "," ++ decimal n
+
+-- numbers in decimal, joined by commas
+abbrev pub numbers_text : List ℕ → List ℕ
+numbers_text [] = []
+numbers_text (n ∷ more) = decimal n ++ flat_map after_comma more
+
+-- a line's words, without the types of a compound and the newline
+abbrev pub dump_words : DumpLine → List ℕ
+dump_words (Rtp number time ports facts) = decimal number ++ codes " " ++ decimal time ++ codes " rtp " ++ packet_text ports facts
+dump_words (Rtcp number time ports types) = decimal number ++ codes " " ++ decimal time ++ codes " rtcp " ++ ports_text ports
+dump_words (BadRtcp number time ports bad) = decimal number ++ codes " " ++ decimal time ++ codes " bad " ++ ports_text ports ++ codes " rtcp " ++ bad_text bad
+dump_words (Bad number time ports why) = decimal number ++ codes " " ++ decimal time ++ codes " bad " ++ ports_text ports ++ codes " rtp " ++ word_text why
+dump_words (Skip number time reason) = decimal number ++ codes " " ++ decimal time ++ codes " skip " ++ word_text reason
+dump_words (Done records) = codes "done " ++ decimal records
+
+-- the types of a compound's packets, behind a space
+abbrev pub types_text : DumpLine → List ℕ
+types_text (Rtcp number time ports types) = codes " " ++ numbers_text types
+types_text line = []
+
 abbrev pub dump_text : DumpLine → List ℕ
-dump_text (Rtp number time ports facts) =
-    decimal number ++ codes " " ++ decimal time ++ codes " rtp " ++ packet_text ports facts ++ codes "\n"
-dump_text (Rtcp number time ports types) =
-    decimal number ++ codes " " ++ decimal time ++ codes " rtcp " ++ ports_text ports ++ codes " " ++ string_bytes types ++ codes "\n"
-dump_text (BadRtcp number time ports bad) =
-    decimal number ++ codes " " ++ decimal time ++ codes " bad " ++ ports_text ports ++ codes " rtcp " ++ bad_text bad ++ codes "\n"
-dump_text (Bad number time ports why) =
-    decimal number ++ codes " " ++ decimal time ++ codes " bad " ++ ports_text ports ++ codes " rtp " ++ word_text why ++ codes "\n"
-dump_text (Skip number time reason) = decimal number ++ codes " " ++ decimal time ++ codes " skip " ++ word_text reason ++ codes "\n"
-dump_text (Done records) = codes "done " ++ decimal records ++ codes "\n"
+dump_text line = dump_words line ++ types_text line ++ codes "\n"

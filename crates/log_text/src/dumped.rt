@@ -1,10 +1,11 @@
 //! The text of a dump's lines.
-ghost use Rattle.std.specs.Prelude.{◌≡◌, IfOk, Some};
-ghost use Rattle.log_text.specs.Dumped.{bad_text, dump_text, header_text, packet_text, ports_text, sizes_text};
+ghost use Rattle.std.specs.Prelude.{◌≡◌, ◌++◌, IfOk, Some, string_bytes};
+ghost use Rattle.std.specs.List.{flat_map};
+ghost use Rattle.log_text.specs.Dumped.{after_comma, bad_text, dump_text, dump_words, header_text, numbers_text, packet_text, ports_text, sizes_text};
 
 use crate::words::Spelled;
 use rtp_units::{Blob, OutOfMemory};
-use std::alloc::Global;
+use std::alloc::{AllocError, Global};
 use std::fmt;
 use timeline::{BadPacket, DumpLine, Ports, RtpFacts};
 
@@ -12,15 +13,45 @@ use timeline::{BadPacket, DumpLine, Ports, RtpFacts};
 pub fn dump_line(alloc: Global, line: &DumpLine) -> Result<Blob, OutOfMemory>
     ensures { IfOk result (λ text. text ≡ dump_text line.now) }
 {
-    let text = Dumped(line).to_string(alloc)?;
+    let words = Dumped(line);
+    if let DumpLine::Rtcp { types, .. } = line {
+        let types = joined(alloc, types.bytes())?;
+        let text = format!(in alloc; "{words} {types}\n")?;
+        return Ok(Blob::from_vec(text.into_bytes()));
+    }
+    let text = format!(in alloc; "{words}\n")?;
     Ok(Blob::from_vec(text.into_bytes()))
 }
 
+// Numbers in decimal, joined by commas.
+fn joined(alloc: Global, numbers: &[u8]) -> Result<String, AllocError>
+    ensures { IfOk result (λ text. string_bytes text ≡ numbers_text numbers.now) }
+{
+    match numbers {
+        [] => Ok(String::new(alloc)),
+        [first, more @ ..] => {
+            let text = format!(in alloc; "{first}")?;
+            with_more(alloc, text, more)
+        }
+    }
+}
+
+fn with_more(alloc: Global, mut text: String, numbers: &[u8]) -> Result<String, AllocError>
+    ensures { IfOk result (λ all. string_bytes all ≡ string_bytes text ++ flat_map after_comma numbers.now) }
+{
+    for number in numbers {
+        let piece = format!(in alloc; ",{number}")?;
+        text.push_str(piece.as_str())?;
+    }
+    Ok(text)
+}
+
+// A line's words, without the types of a compound and the newline.
 #[derive(Clone, Copy)]
 struct Dumped<'a>(&'a DumpLine);
 
 impl fmt::Display for Dumped<'_> {
-    ghost output = { λ line. Some (dump_text line.0.now) };
+    ghost output = { λ line. Some (dump_words line.0.now) };
 
     fn fmt<W: fmt::Write>(&self, f: &mut fmt::Formatter<W>) -> fmt::Result {
         match self.0 {
@@ -34,16 +65,16 @@ impl fmt::Display for Dumped<'_> {
                     ports: *ports,
                     facts: *facts,
                 };
-                write!(f, "{record} {time} rtp {packet}\n")
+                write!(f, "{record} {time} rtp {packet}")
             }
             DumpLine::Rtcp {
                 record,
                 time,
                 ports,
-                types,
+                types: _,
             } => {
                 let ports = PortWords(*ports);
-                write!(f, "{record} {time} rtcp {ports} {types}\n")
+                write!(f, "{record} {time} rtcp {ports}")
             }
             DumpLine::BadRtcp {
                 record,
@@ -53,7 +84,7 @@ impl fmt::Display for Dumped<'_> {
             } => {
                 let ports = PortWords(*ports);
                 let bad = BadWords(*bad);
-                write!(f, "{record} {time} bad {ports} rtcp {bad}\n")
+                write!(f, "{record} {time} bad {ports} rtcp {bad}")
             }
             DumpLine::Bad {
                 record,
@@ -63,7 +94,7 @@ impl fmt::Display for Dumped<'_> {
             } => {
                 let ports = PortWords(*ports);
                 let word = Spelled(*word);
-                write!(f, "{record} {time} bad {ports} rtp {word}\n")
+                write!(f, "{record} {time} bad {ports} rtp {word}")
             }
             DumpLine::Skip {
                 record,
@@ -71,9 +102,9 @@ impl fmt::Display for Dumped<'_> {
                 reason,
             } => {
                 let reason = Spelled(*reason);
-                write!(f, "{record} {time} skip {reason}\n")
+                write!(f, "{record} {time} skip {reason}")
             }
-            DumpLine::Done { records } => write!(f, "done {records}\n"),
+            DumpLine::Done { records } => write!(f, "done {records}"),
         }
     }
 }

@@ -5,7 +5,9 @@ use Rattle.rtpbin_cli.specs.declared.stop.Stop.TheVariants as stop
 use Rattle.rtpbin_cli.specs.Words.{Form}
 use Rattle.rtpbin_cli.specs.declared.status.Status.{Status}
 use Rattle.rtpbin_cli.specs.declared.status.Status.TheVariants as status
-use Rattle.rtpbin_cli.specs.Outcome.{HasStopCause, IsOfForm, IsUsage, Reports}
+use Rattle.rtp_io.specs.Outside.{Disk}
+use Rattle.rtpbin_cli.specs.Output.{Output}
+use Rattle.rtpbin_cli.specs.Steps.{Covers, HasStopCause, IsOfForm, IsUsage, Reports}
 
 pub no_usage : (r : Result (Unit {0}) Stop) (form : Option Form) (f : Form) → Some f ≡ form → IsOfForm r → IsUsage r form
 no_usage (Ok x) form f e other = λ none. cc
@@ -15,6 +17,25 @@ no_usage (Err stop.Read) form f e other = λ none. cc
 no_usage (Err (stop.Capture fault)) form f e other = λ none. cc
 no_usage (Err stop.Write) form f e other = λ none. cc
 no_usage (Err stop.Memory) form f e other = λ none. cc
+
+-- the same of a run that covers a capture
+pub covers_no_usage : (output : Output) (r : Result (Unit {0}) Stop) (form : Option Form) (f : Form) (before after : Disk) (old new : Option (List ℕ)) → Some f ≡ form → Covers output r before after old new → IsUsage r form
+covers_no_usage output (Ok x) form f before after old new e h = λ none. cc
+covers_no_usage output (Err stop.Usage) form f before after old new e h = absurd h
+covers_no_usage output (Err (stop.Script fault)) form f before after old new e h = λ none. cc
+covers_no_usage output (Err stop.Read) form f before after old new e h = λ none. cc
+covers_no_usage output (Err (stop.Capture fault)) form f before after old new e h = λ none. cc
+covers_no_usage output (Err stop.Write) form f before after old new e h = λ none. cc
+covers_no_usage output (Err stop.Memory) form f before after old new e h = λ none. cc
+
+pub covers_of_form : (output : Output) (r : Result (Unit {0}) Stop) (before after : Disk) (old new : Option (List ℕ)) → Covers output r before after old new → IsOfForm r
+covers_of_form output (Ok x) before after old new h = tt
+covers_of_form output (Err stop.Usage) before after old new h = absurd h
+covers_of_form output (Err (stop.Script fault)) before after old new h = tt
+covers_of_form output (Err stop.Read) before after old new h = tt
+covers_of_form output (Err (stop.Capture fault)) before after old new h = tt
+covers_of_form output (Err stop.Write) before after old new h = tt
+covers_of_form output (Err stop.Memory) before after old new h = tt
 
 -- where a run stopped and its status isn't Write, no write of the output failed
 pub taken : (s : Stop) (r : Status) (old new : Option (List ℕ)) (e e' f f' o o' : ℕ) → HasStopCause {A = Unit {0}} (Err s) f f' o o' → Reports r s old new e e' → r ≢ status.Write → o' ≡ o

@@ -1,1 +1,10 @@
-mod Forms
+pub mod Forms
+pub mod Progress
+pub mod Printing
+pub mod Clocks
+pub mod Replaying
+pub mod Dumping
+pub mod Scripts
+pub mod Lanes
+pub mod Running
+pub mod Ending

@@ -1,17 +1,58 @@
--- How a run ends: statuses, their causes and their texts.
-use Rattle.std.specs.Prelude.{◌≡◌, ◌≢◌, ◌<◌, ◌⊎◌, ℕ, IsTrue, List, [], ◌++◌, codes, Option, Some, None, Result, Ok, Err}
+-- How a run ends: what the input calls for, and what an answer says.
+use Rattle.std.specs.Prelude.{All, ◌≡◌, ◌<◌, ◌⊎◌, ℕ, ◌-◌, IsTrue, List, [], ◌++◌, length, take, codes, Option, Some, None, Result, Ok, Err, bytes_eq, if◌then◌else◌}
 use Rattle.std.specs.Fmt.{decimal}
 use Rattle.rtp_io.specs.Outside.{Disk, Adds, AddsFront}
 use Rattle.pcap_file.specs.declared.fault.CaptureFault.{CaptureFault}
-use Rattle.pcap_file.specs.declared.fault.CaptureFault.TheVariants as faults
 use Rattle.pcap_file.specs.Faults.{offset_of, word_of}
+use Rattle.pcap_file.specs.Capture.{Capture, capture_of}
 use Rattle.rtpbin_cli.specs.declared.status.Status.{Status}
 use Rattle.rtpbin_cli.specs.declared.status.Status.TheVariants as status
 use Rattle.rtpbin_cli.specs.declared.stop.Stop.{Stop}
 use Rattle.rtpbin_cli.specs.declared.stop.Stop.TheVariants as stop
+use Rattle.rtpbin_cli.specs.declared.script.ScriptFault.{ScriptFault}
 use Rattle.rtpbin_cli.specs.declared.script.ScriptCause.{ScriptCause}
 use Rattle.rtpbin_cli.specs.declared.script.ScriptCause.TheVariants as causes
-use Rattle.rtpbin_cli.specs.Words.{Form, Replay, Dump}
+use Rattle.script_lang.specs.Causes.{word_of as word_for}
+use Rattle.rtpbin_cli.specs.Words.{Form, Replay, Dump, capture_name}
+use Rattle.rtpbin_cli.specs.Output.{Output, output_of}
+use Rattle.rtpbin_cli.specs.Commands.{output_by}
+
+-- ---- what the words, the script and the capture call for
+
+pub data Wanted : Type 0 where
+  Usage : Wanted
+  BadScript : ScriptFault → Wanted
+  Written : Output → Capture → Wanted
+
+-- by the fault of the script, or what goes out, and the capture
+abbrev pub want_from : Result Output ScriptFault → Capture → Wanted
+want_from (Err fault) capture = BadScript fault
+want_from (Ok output) capture = Written output capture
+
+-- of a form, by the contents of the files
+abbrev pub wanted_of : (List ℕ → List ℕ) → Form → Wanted
+wanted_of contents form = want_from (output_by contents form) (capture_of (contents (capture_name form)))
+
+abbrev pub wanted : (List ℕ → List ℕ) → Option Form → Wanted
+wanted contents None = Usage
+wanted contents (Some form) = wanted_of contents form
+
+-- the bytes that go out
+abbrev pub out_of : Wanted → List ℕ
+out_of Usage = []
+out_of (BadScript fault) = []
+out_of (Written output capture) = output_of output capture
+
+-- why a run stopped, by the fault of its capture
+abbrev pub stop_from : Option CaptureFault → Option Stop
+stop_from None = None
+stop_from (Some fault) = Some (stop.Capture fault)
+
+-- why a run stopped, if it did
+abbrev pub stop_of : Wanted → Option Stop
+stop_of Usage = Some stop.Usage
+stop_of (BadScript fault) = Some (stop.Script fault)
+stop_of (Written output capture) = stop_from capture.fault
 
 abbrev pub status_of_stop : Stop → Status
 status_of_stop stop.Usage = status.Usage
@@ -21,16 +62,14 @@ status_of_stop (stop.Capture fault) = status.Capture
 status_of_stop stop.Write = status.Write
 status_of_stop stop.Memory = status.Memory
 
--- what a fault of the capture ends a run with
-abbrev pub stop_of_fault : CaptureFault → Stop
-stop_of_fault faults.ReadFault = stop.Read
-stop_of_fault faults.OutOfMemory = stop.Memory
-stop_of_fault fault = stop.Capture fault
+abbrev pub status_of : Option Stop → Status
+status_of None = status.Done
+status_of (Some why) = status_of_stop why
 
 -- ---- texts
 
 abbrev pub cause_text : ScriptCause → List ℕ
-cause_text causes.Size = codes "size"
+cause_text (causes.Language cause) = word_for cause
 cause_text causes.Unbuilt = codes "unbuilt"
 
 abbrev pub capture_text : CaptureFault → List ℕ
@@ -50,7 +89,49 @@ text_of (stop.Capture fault) = codes "rtpbin: capture at " ++ capture_text fault
 text_of stop.Write = []
 text_of stop.Memory = memory_text
 
+-- the text that goes with what the input calls for
+abbrev pub err_from : Option Stop → List ℕ
+err_from None = []
+err_from (Some why) = text_of why
+
+abbrev pub err_of : Wanted → List ℕ
+err_of want = err_from (stop_of want)
+
+-- ---- a failed read
+
+-- The bytes that the file of this name gave: its contents without what is left, where it is the open file.
+abbrev pub given_from : List ℕ → Disk → Option (List ℕ) → List ℕ
+given_from name after None = []
+given_from name after (Some opened) = if bytes_eq opened name then take (length (after.contents name) - length after.left) (after.contents name) else []
+
+abbrev pub given_of : List ℕ → Disk → List ℕ
+given_of name after = given_from name after after.opened
+
+-- what goes out for the records that lie whole in them, where the script has no fault
+abbrev pub part_from : Result Output ScriptFault → List ℕ → List ℕ
+part_from (Err fault) given = []
+part_from (Ok output) given = output.part (capture_of given).records
+
+abbrev pub read_out : Option Form → Disk → List ℕ
+read_out None after = []
+read_out (Some form) after = part_from (output_by after.contents form) (given_of (capture_name form) after)
+
 -- ---- the parts of the promise
+
+-- the names of the form may be opened
+abbrev pub MayOpen : Option Form → Disk → Type 0
+MayOpen None disk = Unit {0}
+MayOpen (Some (Replay hex capture script)) disk = IsTrue (disk.may_open script) × IsTrue (disk.may_open capture)
+MayOpen (Some (Dump capture)) disk = IsTrue (disk.may_open capture)
+
+-- bytes as numbers
+abbrev pub AreBytes : List ℕ → Type 0
+AreBytes bytes = All (λ b. b < 256) bytes
+
+-- what is opened is told, and the capture is a list of bytes; or nothing is opened
+abbrev pub Knows : Option Form → Disk → Type 0
+Knows None disk = Unit {0}
+Knows (Some form) disk = IsTrue disk.told × AreBytes (disk.contents (capture_name form))
 
 -- A read failed exactly where the count of the files rose, and a write where that of a sink did.
 abbrev pub HasStatusCause : Status → ℕ → ℕ → ℕ → ℕ → ℕ → ℕ → Type 0
@@ -61,6 +142,35 @@ HasStatusCause status.Capture f f' o o' e e' = (f' ≡ f) × (o' ≡ o) × (e' �
 HasStatusCause status.Read f f' o o' e e' = (f < f') × (o' ≡ o) × (e' ≡ e)
 HasStatusCause status.Write f f' o o' e e' = (o < o') ⊎ (e < e')
 HasStatusCause status.Memory f f' o o' e e' = Unit {0}
+
+-- an answer of the statuses that speak of the input is the one that it calls for
+abbrev pub IsAnswer : Status → Wanted → Type 0
+IsAnswer status.Read want = Unit {0}
+IsAnswer status.Write want = Unit {0}
+IsAnswer status.Memory want = Unit {0}
+IsAnswer answer want = answer ≡ status_of (stop_of want)
+
+-- a front of the output that the input calls for, or of the one that a failed read leaves
+abbrev pub IsFront : Wanted → Option Form → Disk → Option (List ℕ) → Option (List ℕ) → Type 0
+IsFront want form after old new = AddsFront (out_of want) old new ⊎ AddsFront (read_out form after) old new
+
+-- what was added to the output
+abbrev pub HasOut : Status → Wanted → Option Form → Disk → Option (List ℕ) → Option (List ℕ) → Type 0
+HasOut status.Read want form after old new = Adds (read_out form after) old new
+HasOut status.Write want form after old new = IsFront want form after old new
+HasOut status.Memory want form after old new = IsFront want form after old new
+HasOut answer want form after old new = Adds (out_of want) old new
+
+-- a text that a run writes to the errors
+abbrev pub IsText : Wanted → List ℕ → Type 0
+IsText want text = (text ≡ err_of want) ⊎ ((text ≡ text_of stop.Read) ⊎ (text ≡ memory_text))
+
+-- what was added to the errors; o and o' are the faults of the output before and after
+abbrev pub HasErr : Status → Wanted → ℕ → ℕ → Option (List ℕ) → Option (List ℕ) → Type 0
+HasErr status.Read want o o' old new = Adds (text_of stop.Read) old new
+HasErr status.Write want o o' old new = ((o < o') × Adds [] old new) ⊎ ((o' ≡ o) × ((text : List ℕ) × IsText want text × AddsFront text old new))
+HasErr status.Memory want o o' old new = Adds memory_text old new
+HasErr answer want o o' old new = Adds (err_of want) old new
 
 -- the texts that hang on nothing, and none
 abbrev pub HasFixedErr : Status → Option (List ℕ) → Option (List ℕ) → Type 0
@@ -76,47 +186,3 @@ IsUsageOr status.Usage = Unit {0}
 IsUsageOr status.Write = Unit {0}
 IsUsageOr status.Memory = Unit {0}
 IsUsageOr answer = ⊥
-
--- the names of the form may be opened
-abbrev pub MayOpen : Option Form → Disk → Type 0
-MayOpen None disk = Unit {0}
-MayOpen (Some (Replay hex capture script)) disk = IsTrue (disk.may_open script) × IsTrue (disk.may_open capture)
-MayOpen (Some (Dump capture)) disk = IsTrue (disk.may_open capture)
-
--- ---- the steps of a run
-
--- how the counts of the files and of the output moved
-abbrev pub HasStopCause : {A : Type 0} → Result A Stop → ℕ → ℕ → ℕ → ℕ → Type 0
-HasStopCause (Ok x) f f' o o' = (f' ≡ f) × (o' ≡ o)
-HasStopCause (Err stop.Usage) f f' o o' = (f' ≡ f) × (o' ≡ o)
-HasStopCause (Err (stop.Script fault)) f f' o o' = (f' ≡ f) × (o' ≡ o)
-HasStopCause (Err (stop.Capture fault)) f f' o o' = (f' ≡ f) × (o' ≡ o)
-HasStopCause (Err stop.Read) f f' o o' = (f < f') × (o' ≡ o)
-HasStopCause (Err stop.Write) f f' o o' = (f' ≡ f) × (o < o')
-HasStopCause (Err stop.Memory) f f' o o' = (f' ≡ f) × (o' ≡ o)
-
--- how the count of the output moved where lines were written
-abbrev pub HasTellCause : Result (Unit {0}) Stop → ℕ → ℕ → Type 0
-HasTellCause (Ok x) o o' = o' ≡ o
-HasTellCause (Err stop.Write) o o' = o < o'
-HasTellCause (Err stop.Memory) o o' = o' ≡ o
-HasTellCause (Err other) o o' = ⊥
-
--- what is done for words of a form never stops with Usage
-abbrev pub IsOfForm : {A : Type 0} → Result A Stop → Type 0
-IsOfForm (Err stop.Usage) = ⊥
-IsOfForm result = Unit {0}
-
--- a run stops with Usage exactly where the words have no form
-abbrev pub IsUsage : Result (Unit {0}) Stop → Option Form → Type 0
-IsUsage (Err stop.Usage) form = form ≡ None
-IsUsage result form = form ≢ None
-
--- writing a text for a status
-abbrev pub Told : Status → Status → List ℕ → Option (List ℕ) → Option (List ℕ) → ℕ → ℕ → Type 0
-Told result wish text old new e e' = ((result ≡ wish) × Adds text old new × (e' ≡ e)) ⊎ ((result ≡ status.Write) × AddsFront text old new × (e < e'))
-
--- reporting why a run stopped
-abbrev pub Reports : Status → Stop → Option (List ℕ) → Option (List ℕ) → ℕ → ℕ → Type 0
-Reports result stop.Write old new e e' = (result ≡ status.Write) × Adds [] old new × (e' ≡ e)
-Reports result why old new e e' = Told result (status_of_stop why) (text_of why) old new e e' ⊎ Told result status.Memory memory_text old new e e'

@@ -27,3 +27,8 @@ form_of words = None
 abbrev pub form_view : Asked → Form
 form_view (asked.Replay hex capture script) = Replay hex capture.now script.now
 form_view (asked.Dump capture) = Dump capture.now
+
+-- the name of the capture
+abbrev pub capture_name : Form → List ℕ
+capture_name (Replay hex capture script) = capture
+capture_name (Dump capture) = capture

@@ -1,6 +1,13 @@
 //! Dumping a capture: a line for each record.
-ghost use Rattle.std.specs.Prelude.{◌<◌, ◌≤◌, ◌-◌, ◌^◌};
-ghost use Rattle.rtpbin_cli.specs.Outcome.{HasStopCause, HasTellCause, IsOfForm};
+ghost use Rattle.std.specs.Prelude.{◌≡◌, ◌<◌, ◌-◌, ◌^◌, map, IfOk, IsTrue};
+ghost use Rattle.pcap_file.specs.Reading.{record_view};
+ghost use Rattle.rtcp_wire.specs.Compound.{compound_of};
+ghost use Rattle.rtcp_wire.specs.Written.{kind_byte};
+ghost use Rattle.rtp_wire.specs.Packet.{first_fault};
+ghost use Rattle.rtp_io.specs.Outside.{SameDisk};
+ghost use Rattle.log_text.specs.Dumped.{dump_text};
+ghost use Rattle.rtpbin_cli.specs.Dump.{dump_output, facts_of as facts_in, is_rtcp as is_rtcp_payload, line_of as line_for, payload_line as line_of_payload, rtcp_line as line_of_rtcp, rtp_line as line_of_rtp};
+ghost use Rattle.rtpbin_cli.specs.Steps.{Covers, HasStopCause, Prints};
 
 use crate::clock::{START, pass};
 use crate::stop::{Stop, stop_of};
@@ -8,7 +15,7 @@ use log_text::dump_line;
 use pcap_file::{Datagram, PcapRecord, datagram, open_capture};
 use rtcp_wire::{Rtcp, read_compound};
 use rtp_io::{Failed, Files, Pull, Sink, write_piece};
-use rtp_units::OutOfMemory;
+use rtp_units::{Blob, OutOfMemory};
 use rtp_wire::{RtpView, read};
 use std::alloc::Global;
 use timeline::{DumpLine, Ports, RtpFacts, rtcp_word, rtp_word, skip_word};
@@ -17,7 +24,9 @@ use timeline::{DumpLine, Ports, RtpFacts, rtcp_word, rtp_word, skip_word};
 pub fn dump_open<F: Files, O: Sink>(alloc: Global, files: &mut F, out: &mut O) -> Result<(), Stop>
     requires files { F.faults files.old < 2 ^ 64 - 1 }
     requires out { O.faults out.old < 2 ^ 64 - 1 }
-    ensures of_form { IsOfForm result }
+    ensures same { SameDisk (F.disk files.old) (F.disk files.new) }
+    ensures opened { IsTrue (F.disk files.old).told → (F.disk files.new).opened ≡ (F.disk files.old).opened }
+    ensures covers { Covers dump_output result (F.disk files.old) (F.disk files.new) (O.written out.old) (O.written out.new) }
     ensures cause { HasStopCause result (F.faults files.old) (F.faults files.new) (O.faults out.old) (O.faults out.new) }
 {
     let mut pull = match Pull::new(alloc) {
@@ -35,8 +44,11 @@ pub fn dump_open<F: Files, O: Sink>(alloc: Global, files: &mut F, out: &mut O) -
             Ok(Some(entry)) => {
                 clock = pass(clock, entry.stamp);
                 records += 1;
-                let line = line_of(alloc, records, clock.time, pcap.link(), &entry);
-                match print_made(alloc, line, out) {
+                let line = match line_of(alloc, records, clock.time, pcap.link(), &entry) {
+                    Ok(line) => line,
+                    Err(OutOfMemory) => return Err(Stop::Memory),
+                };
+                match print(alloc, &line, out) {
                     Ok(()) => {}
                     Err(stop) => return Err(stop),
                 }
@@ -47,44 +59,68 @@ pub fn dump_open<F: Files, O: Sink>(alloc: Global, files: &mut F, out: &mut O) -
     }
 }
 
-// The line of record `record`, which comes at `time`.
+// The line of record number `number`, which comes at `time`.
+#[tactic(auto, unfolding(crate::specs::Dump::line_of))]
 fn line_of(
     alloc: Global,
-    record: u64,
+    number: u64,
     time: u64,
     link: u16,
     rec: &PcapRecord,
-) -> Result<DumpLine, OutOfMemory> {
+) -> Result<DumpLine, OutOfMemory>
+    ensures { IfOk result (λ line. line ≡ line_for number (record { time = time; captured = record_view link rec.now })) }
+{
     match datagram(link, rec) {
-        Ok(datagram) if is_rtcp(datagram.payload) => {
-            rtcp_line(alloc, record, time, ports_of(&datagram), datagram.payload)
+        Ok(datagram) => {
+            let ports = ports_of(&datagram);
+            payload_line(alloc, number, time, ports, datagram.payload)
         }
-        Ok(datagram) => Ok(rtp_line(record, time, ports_of(&datagram), datagram.payload)),
         Err(skip) => Ok(DumpLine::Skip {
-            record,
+            record: number,
             time,
             reason: skip_word(skip),
         }),
     }
 }
 
-fn ports_of(datagram: &Datagram<'_>) -> Ports {
+// The line of a datagram's payload.
+fn payload_line(
+    alloc: Global,
+    number: u64,
+    time: u64,
+    ports: Ports,
+    payload: &[u8],
+) -> Result<DumpLine, OutOfMemory>
+    ensures { IfOk result (λ line. line ≡ line_of_payload number time ports payload.now) }
+{
+    if is_rtcp(payload) {
+        rtcp_line(alloc, number, time, ports, payload)
+    } else {
+        Ok(rtp_line(number, time, ports, payload))
+    }
+}
+
+fn ports_of(datagram: &Datagram<'_>) -> Ports
+    ensures { result ≡ record { «from» = datagram.now.from.port; to = datagram.now.to.port } }
+{
     Ports {
         from: datagram.from.port,
         to: datagram.to.port,
     }
 }
 
-fn rtp_line(record: u64, time: u64, ports: Ports, payload: &[u8]) -> DumpLine {
+fn rtp_line(number: u64, time: u64, ports: Ports, payload: &[u8]) -> DumpLine
+    ensures { result ≡ line_of_rtp number time ports payload.now (first_fault payload.now) }
+{
     match read(payload) {
         Ok(view) => DumpLine::Rtp {
-            record,
+            record: number,
             time,
             ports,
             facts: facts_of(&view),
         },
         Err(fault) => DumpLine::Bad {
-            record,
+            record: number,
             time,
             ports,
             word: rtp_word(fault),
@@ -94,21 +130,23 @@ fn rtp_line(record: u64, time: u64, ports: Ports, payload: &[u8]) -> DumpLine {
 
 fn rtcp_line(
     alloc: Global,
-    record: u64,
+    number: u64,
     time: u64,
     ports: Ports,
     payload: &[u8],
-) -> Result<DumpLine, OutOfMemory> {
+) -> Result<DumpLine, OutOfMemory>
+    ensures { IfOk result (λ line. line ≡ line_of_rtcp number time ports (compound_of payload.now)) }
+{
     match read_compound(alloc, payload) {
         Ok(packets) => Ok(DumpLine::Rtcp {
-            record,
+            record: number,
             time,
             ports,
             types: types_of(alloc, &packets)?,
         }),
         Err(fault) => match rtcp_word(fault) {
             Some(bad) => Ok(DumpLine::BadRtcp {
-                record,
+                record: number,
                 time,
                 ports,
                 bad,
@@ -118,29 +156,33 @@ fn rtcp_line(
     }
 }
 
-// The types of a compound's packets in decimal, joined by commas.
-fn types_of(alloc: Global, packets: &[Rtcp]) -> Result<String, OutOfMemory> {
-    let mut text = String::new(alloc);
-    for (i, packet) in packets.iter().enumerate() {
-        if i > 0 {
-            text.push_str(",")?;
-        }
-        let kind = packet.kind();
-        let digits = format!(in alloc; "{kind}")?;
-        text.push_str(digits.as_str())?;
-    }
-    Ok(text)
+// The types of a compound's packets.
+fn types_of(alloc: Global, packets: &[Rtcp]) -> Result<Blob, OutOfMemory>
+    ensures { IfOk result (λ types. types ≡ map kind_byte packets.now) }
+{
+    let types: Vec<u8> = packets.iter().map(type_of).collect(alloc)?;
+    Ok(Blob::from_vec(types))
+}
+
+fn type_of(packet: &Rtcp) -> u8
+    ensures { result ≡ kind_byte packet.now }
+{
+    packet.kind()
 }
 
 // RFC 5761, section 4: the second byte of an RTCP packet is its type, from 192 to 223.
-fn is_rtcp(payload: &[u8]) -> bool {
+fn is_rtcp(payload: &[u8]) -> bool
+    ensures { result ≡ is_rtcp_payload payload.now }
+{
     match payload {
         [_, kind, ..] => (192..=223).contains(kind),
         _ => false,
     }
 }
 
-fn facts_of(view: &RtpView<'_>) -> RtpFacts {
+fn facts_of(view: &RtpView<'_>) -> RtpFacts
+    ensures { result ≡ facts_in view.now }
+{
     RtpFacts {
         pt: view.pt(),
         seq: view.seq(),
@@ -157,23 +199,9 @@ fn facts_of(view: &RtpView<'_>) -> RtpFacts {
     }
 }
 
-fn print_made<O: Sink>(
-    alloc: Global,
-    made: Result<DumpLine, OutOfMemory>,
-    out: &mut O,
-) -> Result<(), Stop>
-    requires { O.faults out.old < 2 ^ 64 - 1 }
-    ensures { HasTellCause result (O.faults out.old) (O.faults out.new) }
-{
-    match made {
-        Ok(line) => print(alloc, &line, out),
-        Err(OutOfMemory) => Err(Stop::Memory),
-    }
-}
-
 fn print<O: Sink>(alloc: Global, line: &DumpLine, out: &mut O) -> Result<(), Stop>
     requires { O.faults out.old < 2 ^ 64 - 1 }
-    ensures { HasTellCause result (O.faults out.old) (O.faults out.new) }
+    ensures { Prints (dump_text line.now) result (O.written out.old) (O.written out.new) (O.faults out.old) (O.faults out.new) }
 {
     let piece = match dump_line(alloc, line) {
         Ok(piece) => piece,

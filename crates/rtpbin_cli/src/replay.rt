@@ -1,7 +1,10 @@
 //! Replaying a capture, record by record.
-ghost use Rattle.std.specs.Prelude.{◌<◌, ◌≤◌, ◌-◌, ◌^◌};
+ghost use Rattle.std.specs.Prelude.{◌≡◌, ◌<◌, ◌≤◌, ◌-◌, ◌^◌, IsTrue};
 ghost use Rattle.bin_core.specs.Stages.{IsOneSession};
-ghost use Rattle.rtpbin_cli.specs.Outcome.{HasStopCause, HasTellCause, IsOfForm};
+ghost use Rattle.rtp_io.specs.Outside.{SameDisk};
+ghost use Rattle.log_text.specs.Text.{line_text as text_of};
+ghost use Rattle.rtpbin_cli.specs.Commands.{replay_output, texts_of};
+ghost use Rattle.rtpbin_cli.specs.Steps.{Covers, HasStopCause, Prints};
 
 use crate::clock::{START, pass};
 use crate::stop::{Stop, stop_of};
@@ -24,7 +27,9 @@ pub fn replay_open<F: Files, O: Sink>(
     requires settings { IsOneSession settings.now }
     requires files { F.faults files.old < 2 ^ 64 - 1 }
     requires out { O.faults out.old < 2 ^ 64 - 1 }
-    ensures of_form { IsOfForm result }
+    ensures same { SameDisk (F.disk files.old) (F.disk files.new) }
+    ensures opened { IsTrue (F.disk files.old).told → (F.disk files.new).opened ≡ (F.disk files.old).opened }
+    ensures covers { Covers (replay_output hex settings.now) result (F.disk files.old) (F.disk files.new) (O.written out.old) (O.written out.new) }
     ensures cause { HasStopCause result (F.faults files.old) (F.faults files.new) (O.faults out.old) (O.faults out.new) }
 {
     let mut pull = match Pull::new(alloc) {
@@ -43,48 +48,45 @@ pub fn replay_open<F: Files, O: Sink>(
             Ok(Some(entry)) => {
                 clock = pass(clock, entry.stamp);
                 let n = bin.records() + 1;
-                let took = bin.take_record(alloc, n, clock.time, pcap.link(), &entry, &mut lines);
-                match tell(alloc, took, &mut lines, hex, out) {
+                match bin.take_record(alloc, n, clock.time, pcap.link(), &entry, &mut lines) {
+                    Ok(()) => {}
+                    Err(OutOfMemory) => return Err(Stop::Memory),
+                }
+                match tell(alloc, &lines, hex, out) {
                     Ok(()) => {}
                     Err(stop) => return Err(stop),
                 }
+                lines.clear();
             }
             Ok(None) => {
-                let finished = bin.finish(&mut lines);
-                return tell(alloc, finished, &mut lines, hex, out);
+                match bin.finish(&mut lines) {
+                    Ok(()) => {}
+                    Err(OutOfMemory) => return Err(Stop::Memory),
+                }
+                return tell(alloc, &lines, hex, out);
             }
             Err(fault) => return Err(stop_of(fault)),
         }
     }
 }
 
-// Writes the lines of a call of the bin and drops them.
-fn tell<O: Sink>(
-    alloc: Global,
-    called: Result<(), OutOfMemory>,
-    lines: &mut Lines,
-    hex: bool,
-    out: &mut O,
-) -> Result<(), Stop>
+// Writes these lines.
+fn tell<O: Sink>(alloc: Global, lines: &Lines, hex: bool, out: &mut O) -> Result<(), Stop>
     requires { O.faults out.old < 2 ^ 64 - 1 }
-    ensures { HasTellCause result (O.faults out.old) (O.faults out.new) }
+    ensures { Prints (texts_of hex lines.now) result (O.written out.old) (O.written out.new) (O.faults out.old) (O.faults out.new) }
 {
-    if called.is_err() {
-        return Err(Stop::Memory);
-    }
     for line in lines.lines() {
         match print(alloc, line, hex, out) {
             Ok(()) => {}
             Err(stop) => return Err(stop),
         }
     }
-    lines.clear();
     Ok(())
 }
 
 fn print<O: Sink>(alloc: Global, line: &BinLine, hex: bool, out: &mut O) -> Result<(), Stop>
     requires { O.faults out.old < 2 ^ 64 - 1 }
-    ensures { HasTellCause result (O.faults out.old) (O.faults out.new) }
+    ensures { Prints (text_of hex line.now) result (O.written out.old) (O.written out.new) (O.faults out.old) (O.faults out.new) }
 {
     let piece = match line_text(alloc, line, hex) {
         Ok(piece) => piece,

@@ -1,93 +1,124 @@
-//! The script of a replay. So far it has one form of five lines, in which the latency alone is free.
-ghost use Rattle.std.specs.Prelude.{◌≤◌, IfOk, IfSome, length};
+//! The scripts that a replay takes.
+ghost use Rattle.std.specs.Prelude.{◌≡◌, IfOk, IfSome};
+ghost use Rattle.bin_core.specs.Stages.{IsOneSession};
+ghost use Rattle.rtpbin_cli.specs.Script.{built_settings, is_built as builds, is_one_session as has_one_session, rate_in as rate_from, settings_with as settings_from};
+ghost use Rattle.rtpbin_cli.specs.Steps.{ReadsText};
+
+use crate::stop::Stop;
+use jitter_core::Settings;
+use log_model::{OWN_SSRC, PAYLOAD_TYPE, RTCP_PORT, RTP_PORT, SESSION};
+use script_lang::{PtLine, Script, ScriptFault as Refusal, SessionLine, read};
+use std::alloc::Global;
 
 /// What a line of a script has against it.
 #[derive(Clone, Copy, Debug, PartialEq, Eq)]
 pub enum ScriptCause {
-    /// The script is too long.
-    Size,
-    /// The line has a form that is not built yet.
+    /// It is no line of the language here.
+    Language(script_lang::ScriptCause),
+    /// The script asks for something that is not built yet.
     Unbuilt,
 }
 
-/// The first bad line, from 1, and the cause. Line 0 stands for the whole script.
+/// The first bad line, from 1, and what it has against it. Line 0 stands for the whole script.
 #[derive(Clone, Copy, Debug, PartialEq, Eq)]
 pub struct ScriptFault {
-    pub line: u64,
+    pub line: u32,
     pub cause: ScriptCause,
 }
 
-/// The most bytes of a script.
-pub const MAX_SCRIPT: usize = 1_048_576;
+/// The pushers of a lane as a set of bits: session 0 and the control.
+const SESSION_AND_CONTROL: u16 = 0b1_0000_0001;
 
-const MAX_LATENCY_MS: u64 = 600_000;
+/// After which silence a source is removed where the script sets nothing else, in nanoseconds.
+const TIMEOUT: u64 = 25_000_000_000;
 
-const MAX_DIGITS: usize = 20;
-
-/// The latency in milliseconds that a script sets.
-pub fn latency_of(text: &[u8]) -> Result<u64, ScriptFault>
-    ensures { IfOk result (λ ms. ms ≤ 600000) }
+/// The settings of the lane that a script makes.
+pub fn settings_in(alloc: Global, text: &[u8]) -> Result<Settings, Stop>
+    ensures after { ReadsText result text.now }
+    ensures valid { IfOk result IsOneSession }
 {
-    if text.len() > MAX_SCRIPT {
-        return Err(ScriptFault {
-            line: 0,
-            cause: ScriptCause::Size,
-        });
-    }
-    let rest = after(text, b"session 0 5004 5005\n", 1)?;
-    let rest = after(rest, b"pt 0 96 90000\n", 2)?;
-    let rest = after(rest, b"set latency ", 3)?;
-    let digits = digits_at(rest);
-    let latency = number_of(&rest[..digits]).ok_or(unbuilt(3))?;
-    let rest = after(&rest[digits..], b"\n", 3)?;
-    let rest = after(rest, b"set probation 0\n", 4)?;
-    let rest = after(rest, b"set mode none\n", 5)?;
-    if rest.is_empty() {
-        Ok(latency)
-    } else {
-        Err(unbuilt(6))
+    match read(alloc, text) {
+        Ok(script) => match settings_of(&script) {
+            Some(settings) => Ok(settings),
+            None => Err(Stop::Script(ScriptFault {
+                line: 0,
+                cause: ScriptCause::Unbuilt,
+            })),
+        },
+        Err(Refusal::Bad { line, cause }) => Err(Stop::Script(ScriptFault {
+            line,
+            cause: ScriptCause::Language(cause),
+        })),
+        Err(Refusal::OutOfMemory) => Err(Stop::Memory),
     }
 }
 
-// What follows a text.
-fn after<'a>(bytes: &'a [u8], text: &[u8], line: u64) -> Result<&'a [u8], ScriptFault> {
-    bytes.strip_prefix(text).ok_or(unbuilt(line))
-}
-
-fn unbuilt(line: u64) -> ScriptFault {
-    ScriptFault {
-        line,
-        cause: ScriptCause::Unbuilt,
-    }
-}
-
-// How many digits the bytes begin with.
-fn digits_at(bytes: &[u8]) -> usize
-    ensures { result ≤ length bytes.now }
+// The settings of the lane, where all that the script asks for is built.
+fn settings_of(script: &Script) -> Option<Settings>
+    ensures exact { result ≡ built_settings script.now }
+    ensures valid { IfSome result IsOneSession }
 {
-    bytes
-        .iter()
-        .take_while(|byte| byte.is_ascii_digit())
-        .count()
-}
-
-// The number of one to twenty digits, where it is in the range of latencies.
-fn number_of(digits: &[u8]) -> Option<u64>
-    ensures { IfSome result (λ ms. ms ≤ 600000) }
-{
-    if digits.is_empty() || digits.len() > MAX_DIGITS {
+    if !is_built(script) {
         return None;
     }
-    let mut number = 0;
-    for digit in digits {
-        if *digit < b'0' || number > MAX_LATENCY_MS {
-            return None;
-        }
-        number = number * 10 + u64::from(*digit - b'0');
+    match rate_in(&script.pts) {
+        Some(rate) => Some(settings_with(script, rate)),
+        None => None,
     }
-    if number > MAX_LATENCY_MS {
-        None
-    } else {
-        Some(number)
+}
+
+// So far one session on its fixed ports is built, without retransmissions and timed lines; each source is
+// valid at once, and there are no reports.
+fn is_built(script: &Script) -> bool
+    ensures { result ≡ builds script.now }
+{
+    let settings = &script.settings;
+    is_one_session(&script.sessions)
+        && script.rtx.is_empty()
+        && script.fids.is_empty()
+        && script.items.is_empty()
+        && !settings.rtx
+        && settings.probation == 0
+        && settings.report == 0
+        && settings.timeout == TIMEOUT
+        && settings.ssrc == OWN_SSRC
+}
+
+fn is_one_session(sessions: &[SessionLine]) -> bool
+    ensures { result ≡ has_one_session sessions.now }
+{
+    match sessions {
+        [line] => line.session == SESSION && line.rtp == RTP_PORT && line.rtcp == RTCP_PORT,
+        _ => false,
+    }
+}
+
+// The clock rate of the one payload type that is built.
+fn rate_in(pts: &[PtLine]) -> Option<u32>
+    ensures { result ≡ rate_from pts.now }
+{
+    match pts {
+        [line] if line.pt == PAYLOAD_TYPE => Some(line.rate),
+        _ => None,
+    }
+}
+
+fn settings_with(script: &Script, rate: u32) -> Settings
+    ensures { result ≡ settings_from script.now rate }
+{
+    let settings = &script.settings;
+    Settings {
+        rate,
+        mode: settings.mode,
+        latency: settings.latency,
+        rtx: settings.rtx,
+        rtx_delay: settings.rtx_delay,
+        rtx_retry: settings.rtx_retry,
+        rtx_max: settings.rtx_max,
+        reorder: settings.reorder,
+        dropout: settings.dropout,
+        misorder: settings.misorder,
+        faststart: settings.faststart,
+        pushers: SESSION_AND_CONTROL,
     }
 }

@@ -1,6 +1,7 @@
 //! Why a run stops, with its text.
 ghost use Rattle.std.specs.Prelude.{◌≡◌, Some};
-ghost use Rattle.rtpbin_cli.specs.Outcome.{text_of, capture_text, cause_text, status_of_stop, stop_of_fault};
+ghost use Rattle.rtpbin_cli.specs.Outcome.{text_of, capture_text, cause_text, status_of_stop};
+ghost use Rattle.rtpbin_cli.specs.Steps.{stop_of_fault};
 
 use crate::script::{ScriptCause, ScriptFault};
 use crate::status::Status;
@@ -51,7 +52,10 @@ impl fmt::Display for CauseWord {
 
     fn fmt<W: fmt::Write>(&self, f: &mut fmt::Formatter<W>) -> fmt::Result {
         match self.0 {
-            ScriptCause::Size => write!(f, "size"),
+            ScriptCause::Language(cause) => {
+                let word = cause.word();
+                write!(f, "{word}")
+            }
             ScriptCause::Unbuilt => write!(f, "unbuilt"),
         }
     }

@@ -111,18 +111,28 @@ const USAGE: &[u8] =
 // How many words of `replay c s` are given, how many bytes of the capture and the script are there, the
 // call on the files and the write that fail (0 for none), and what comes: the status, how many bytes are
 // written, and the error text. A packet, and what is written for it, in order.
-const ENDS: [(usize, usize, usize, u64, u64, Status, usize, &[u8]); 9] = [
+const ENDS: [(usize, usize, usize, u64, u64, Status, usize, &[u8]); 10] = [
     (3, 98, 80, 0, 0, Status::Done, 98, b""),
     (2, 98, 80, 0, 0, Status::Usage, 0, USAGE),
     (
         3,
         98,
-        79,
+        78,
         0,
         0,
         Status::Script,
         0,
-        b"rtpbin: script line 5: unbuilt\n",
+        b"rtpbin: script line 5: word\n",
+    ),
+    (
+        3,
+        98,
+        50,
+        0,
+        0,
+        Status::Script,
+        0,
+        b"rtpbin: script line 0: unbuilt\n",
     ),
     (3, 98, 80, 1, 0, Status::Read, 0, b"rtpbin: read failed\n"),
     (3, 98, 80, 6, 0, Status::Read, 36, b"rtpbin: read failed\n"),

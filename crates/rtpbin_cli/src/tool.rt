@@ -1,23 +1,21 @@
 //! The top call.
-ghost use Rattle.std.specs.Prelude.{◌≡◌, ◌≢◌, ◌<◌, ◌-◌, ◌^◌, ◌≤◌, None, IsTrue, IfOk, length};
+ghost use Rattle.std.specs.Prelude.{◌≡◌, ◌≢◌, ◌⊎◌, ◌<◌, ◌-◌, ◌^◌, ◌≤◌, None, Some, IsTrue, IfOk, length};
 ghost use Rattle.bin_core.specs.Stages.{IsOneSession};
 ghost use Rattle.rtp_io.specs.Outside.{SameDisk};
-ghost use Rattle.rtpbin_cli.specs.Words.{form_of, texts};
-ghost use Rattle.rtpbin_cli.specs.Outcome.{HasFixedErr, HasStatusCause, HasStopCause, IsOfForm, IsUsage, IsUsageOr, MayOpen, Reports, Told};
+ghost use Rattle.rtpbin_cli.specs.Words.{form_of, texts, Replay};
+ghost use Rattle.rtpbin_cli.specs.Outcome.{AreBytes, HasErr, HasFixedErr, HasOut, HasStatusCause, IsAnswer, IsUsageOr, Knows, MayOpen, status_of, stop_of, wanted, wanted_of};
+ghost use Rattle.rtpbin_cli.specs.Steps.{HasStopCause, IsOfForm, IsUsage, ReadsScript, Reports, Runs, Told};
 
 use crate::dump::dump_open;
 use crate::replay::replay_open;
-use crate::script::{MAX_SCRIPT, latency_of};
+use crate::script::settings_in;
 use crate::status::Status;
 use crate::stop::Stop;
 use crate::words::{Asked, asked_by};
 use jitter_core::Settings;
 use rtp_io::{Failed, Files, Sink, read_up_to, write_piece};
-use rtp_units::Mode;
+use script_lang::MAX_SCRIPT;
 use std::alloc::{AllocError, Global};
-
-/// The pushers of a lane as a set of bits: session 0 and the control.
-const SESSION_AND_CONTROL: u16 = 0b1_0000_0001;
 
 /// Does what the words ask for, and answers how it ended. The text of a status other than `Done` and
 /// `Write` goes to `err`.
@@ -40,12 +38,28 @@ pub fn run_tool<F: Files, O: Sink, E: Sink>(
     // Where the status is another than Write, the output took all that it was given.
     ensures taken { result ≢ Status.Write → O.faults out.new ≡ O.faults out.old }
 
-    // Words of no form, exactly, unless memory or the error text fails.
+    // The statuses that speak of the input are those that it calls for.
+    ensures answer { Knows (form_of (texts words.now)) (F.disk files.old) → IsAnswer result (wanted (F.disk files.old).contents (form_of (texts words.now))) }
+
+    // What was added to the output: all that goes out for the capture, the part of it before a fault, or a front.
+    ensures out { Knows (form_of (texts words.now)) (F.disk files.old) → HasOut result (wanted (F.disk files.old).contents (form_of (texts words.now)))
+        (form_of (texts words.now)) (F.disk files.new) (O.written out.old) (O.written out.new) }
+
+    // What was added to the errors.
+    ensures err { Knows (form_of (texts words.now)) (F.disk files.old) → HasErr result (wanted (F.disk files.old).contents (form_of (texts words.now)))
+        (O.faults out.old) (O.faults out.new) (E.written err.old) (E.written err.new) }
+
+    // Of files that tell nothing too: words of no form, exactly, unless memory or the error text fails.
     ensures usage { result ≡ Status.Usage → form_of (texts words.now) ≡ None }
     ensures no_form { form_of (texts words.now) ≡ None → IsUsageOr result }
 
-    // The texts that hang on nothing, and none.
+    // Of such files too: the texts that hang on nothing, and none.
     ensures fixed { HasFixedErr result (E.written err.old) (E.written err.new) }
+
+    // Where nothing failed, the answer is the one that the input calls for, unless memory runs out.
+    ensures complete { Knows (form_of (texts words.now)) (F.disk files.old)
+        → F.faults files.new ≡ F.faults files.old → O.faults out.new ≡ O.faults out.old → E.faults err.new ≡ E.faults err.old
+        → (result ≡ status_of (stop_of (wanted (F.disk files.old).contents (form_of (texts words.now))))) ⊎ (result ≡ Status.Memory) }
 {
     match run(alloc, words, files, out) {
         Ok(()) => Status::Done,
@@ -87,6 +101,8 @@ fn run<F: Files, O: Sink>(
     requires may_open { MayOpen (form_of (texts words.now)) (F.disk files.old) }
     requires files { F.faults files.old < 2 ^ 64 - 1 }
     requires out { O.faults out.old < 2 ^ 64 - 1 }
+    ensures runs { Knows (form_of (texts words.now)) (F.disk files.old) → Runs result (wanted (F.disk files.old).contents (form_of (texts words.now)))
+        (form_of (texts words.now)) (F.disk files.new) (O.written out.old) (O.written out.new) }
     ensures usage { IsUsage result (form_of (texts words.now)) }
     ensures cause { HasStopCause result (F.faults files.old) (F.faults files.new) (O.faults out.old) (O.faults out.new) }
 {
@@ -119,6 +135,8 @@ fn replay<F: Files, O: Sink>(
     requires capture { IsTrue ((F.disk files.old).may_open capture.now) }
     requires files { F.faults files.old < 2 ^ 64 - 1 }
     requires out { O.faults out.old < 2 ^ 64 - 1 }
+    ensures runs { IsTrue (F.disk files.old).told → AreBytes ((F.disk files.old).contents capture.now) → Runs result (wanted_of (F.disk files.old).contents (Replay hex capture.now script.now))
+        (Some (Replay hex capture.now script.now)) (F.disk files.new) (O.written out.old) (O.written out.new) }
     ensures of_form { IsOfForm result }
     ensures cause { HasStopCause result (F.faults files.old) (F.faults files.new) (O.faults out.old) (O.faults out.new) }
 {
@@ -137,8 +155,8 @@ fn read_script<F: Files>(alloc: Global, files: &mut F, name: &str) -> Result<Set
     requires may_open { IsTrue ((F.disk files.old).may_open name.now) }
     requires countable { F.faults files.old < 2 ^ 64 - 1 }
     ensures same { SameDisk (F.disk files.old) (F.disk files.new) }
+    ensures after { ReadsScript result name.now (F.disk files.old) (F.disk files.new) }
     ensures settings { IfOk result IsOneSession }
-    ensures of_form { IsOfForm result }
     ensures cause { HasStopCause result (F.faults files.old) (F.faults files.new) 0 0 }
 {
     match files.open_file(name) {
@@ -150,32 +168,8 @@ fn read_script<F: Files>(alloc: Global, files: &mut F, name: &str) -> Result<Set
         Err(AllocError) => return Err(Stop::Memory),
     };
     match read_up_to(files, &mut text) {
-        Ok(size) => match latency_of(&text[..size]) {
-            Ok(ms) => Ok(settings_with(ms)),
-            Err(fault) => Err(Stop::Script(fault)),
-        },
+        Ok(size) => settings_in(alloc, &text[..size]),
         Err(Failed) => Err(Stop::Read),
-    }
-}
-
-// The settings of the one script that is built, with its latency.
-fn settings_with(latency_ms: u64) -> Settings
-    requires { latency_ms ≤ 600000 }
-    ensures { IsOneSession result }
-{
-    Settings {
-        rate: 90_000,
-        mode: Mode::Plain,
-        latency: latency_ms * 1_000_000,
-        rtx: false,
-        rtx_delay: 20_000_000,
-        rtx_retry: 40_000_000,
-        rtx_max: 3,
-        reorder: 3,
-        dropout: 3000,
-        misorder: 100,
-        faststart: 0,
-        pushers: SESSION_AND_CONTROL,
     }
 }
 

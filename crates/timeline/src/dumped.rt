@@ -2,6 +2,7 @@
 
 use crate::line::Word;
 use crate::word::BadPacket;
+use rtp_units::Blob;
 
 /// The UDP ports of a datagram.
 #[derive(Clone, Copy, Debug, PartialEq, Eq, Drop)]
@@ -38,12 +39,12 @@ pub enum DumpLine {
         ports: Ports,
         facts: RtpFacts,
     },
-    /// A datagram with an RTCP compound: the types of its packets in decimal, joined by commas.
+    /// A datagram with an RTCP compound: the types of its packets, in order.
     Rtcp {
         record: u64,
         time: u64,
         ports: Ports,
-        types: String,
+        types: Blob,
     },
     /// A datagram whose payload is to be read as RTCP and is no compound: why, and the offset of the
     /// packet that is bad.

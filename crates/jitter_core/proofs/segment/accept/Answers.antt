@@ -39,4 +39,6 @@ returns-clause-segment c =
       held = c.hold.ensures;
       heights = c.add_mark.ensures ∙ ap (λ (m : Option Mark). with_mark c.args.state.now.span.next m c.args.state.now.heights) c.place-place.ensures.mark;
       timed = c.place-place.ensures.timed;
+      peaks = c.add_peak.ensures;
+      served = refl;
     }

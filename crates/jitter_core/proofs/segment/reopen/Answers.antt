@@ -15,7 +15,7 @@ record Room (old s : State) (a : Arrival) : Type 0 where
   may : CanAccept s a (state_number s a)
 
 bounded_at : (old s : State) (done : List Arrival) → IsBounded old → s.settings ≡ old.settings → s.progress ≡ old.progress → IsOpenedBy s done → IsRun done → length done ≤ 5 → IsBounded s
-bounded_at old s done b same going o r few = opened_bounded s done (rw going b.latency) o r few
+bounded_at old s done b same going o r few = opened_bounded s done (record { latency = rw going b.timely.latency; delay = rw same b.timely.delay; retry_from = rw same b.timely.retry_from; retry_to = rw same b.timely.retry_to }) o r few
 
 room : (old s : State) (a : Arrival) (rest : List (ℕ × Arrival)) (all : List Arrival) → IsBounded old → s.settings ≡ old.settings → s.progress ≡ old.progress → (o : Opening s rest all) → Some a ≡ first_of rest → IsRun all → length all ≤ 4 → Room old s a
 room old s a rest all b same going o e r few =

@@ -1,6 +1,4 @@
-use Rattle.std.proofs.Common.{◌≡◌}
-use Rattle.jitter_core.specs.Words.{settings_of}
 use Rattle.jitter_core.proofs.tests.first_other.Given as goal
 
-abbrev pub invariant-loop-place : goal.invariant-loop-place
-invariant-loop-place l = (settings_of l.buffer).pushers ≡ 257
+abbrev pub ghosts-first_wrong : goal.ghosts-first_wrong
+ghosts-first_wrong a = record { name = a.blank.name; parts = a.blank.parts }

@@ -26,5 +26,5 @@ returns-in-None-clause-does c =
       settings = refl;
       progress = refl;
       aside = refl;
-      segment = record { span = refl; held = c.take.ensures.after ∙ removed_none c.args.state.now.held c.args.number (sym c.in-None.ensures.value); skew = refl; heights = refl };
+      segment = record { span = refl; held = c.take.ensures.after ∙ removed_none c.args.state.now.held c.args.number (sym c.in-None.ensures.value); skew = refl; heights = refl; peaks = refl; served = refl };
     }

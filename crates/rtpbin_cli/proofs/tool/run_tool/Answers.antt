@@ -1,5 +1,9 @@
 use Rattle.rtpbin_cli.proofs.Forms.{taken}
+use Rattle.rtpbin_cli.proofs.Ending.{out_ends}
 use Rattle.rtpbin_cli.proofs.tool.run_tool.Goals as goal
 
 pub returns-in-Err-clause-taken : goal.returns-in-Err-clause-taken
 returns-in-Err-clause-taken g c = taken c.in-Err.stop c.report.result _ _ _ _ _ _ _ _ c.in-Err.ensures.cause c.report.ensures
+
+pub returns-in-Err-clause-out : goal.returns-in-Err-clause-out
+returns-in-Err-clause-out g c = λ knows. out_ends c.in-Err.stop c.report.result _ _ _ _ _ _ _ _ _ (c.in-Err.ensures.runs knows) c.report.ensures

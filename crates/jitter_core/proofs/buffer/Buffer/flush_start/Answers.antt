@@ -1,6 +1,7 @@
-use Rattle.std.proofs.Common.{◌∷◌, ◌∙◌}
+use Rattle.std.proofs.Common.{refl, ◌∷◌, ◌∙◌}
 use Rattle.jitter_model.specs.declared.Entry.TheVariants.{FlushStart}
 use Rattle.jitter_core.proofs.Passing.{flushed_keeps, flush_count_is}
+use Rattle.jitter_core.proofs.Retiming.{stale_timed}
 use Rattle.jitter_core.proofs.Reached.{reached_after, reached_bounded}
 use Rattle.jitter_core.proofs.buffer.Buffer.flush_start.Goals as goal
 
@@ -12,6 +13,7 @@ invariant_of-self c =
     record {
       reached = reached_after c.args.self.now.state c.start_flush.new.state (λ h. FlushStart c.start_flush.result ∷ h)
           (λ h st. flushed_keeps c.args.self.now.state c.start_flush.new.state h c.start_flush.result st c.start_flush.ensures.dropped c.start_flush.ensures.does) c.args.self.now.reached;
+      timed = stale_timed _ _ c.args.self.now.timed.room refl;
     }
 
 pub returns-clause-stands : goal.returns-clause-stands

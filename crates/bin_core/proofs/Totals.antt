@@ -1,0 +1,148 @@
+-- The replies of a lane come to small numbers: each push leaves at most 8192 numbers uncovered.
+use Rattle.std.proofs.Common.{ℕ, ◌≡◌, ◌+◌, ◌-◌, ◌*◌, ◌≤◌, ◌<◌, ◌^◌, Bool, true, false, refl, ap, List, [], ◌∷◌, Option, None, Some, arith, unwrap_or}
+use Rattle.std.specs.Prelude.{if◌then◌else◌}
+use Rattle.std.proofs.Props.{props}
+use Rattle.std.proofs.Math.Logic.{∥∥₁_elim}
+use Rattle.jitter_model.specs.declared.Arrival.{Arrival}
+use Rattle.jitter_model.specs.declared.Settings.{Settings}
+use Rattle.jitter_model.specs.declared.Turn.{Turn}
+use Rattle.jitter_model.specs.declared.Turn.TheVariants.{Packet, Lost, Request, End, Idle, Flushing}
+use Rattle.jitter_model.specs.declared.Verdict.{Verdict}
+use Rattle.jitter_model.specs.declared.Verdict.TheVariants as verdict
+use Rattle.jitter_model.specs.declared.Entry.TheVariants.{Push, Clock, FlushStart, FlushStop, Latency, Report, Ends, Turned}
+use Rattle.jitter_model.specs.History.{History, pushes, is_flushing}
+use Rattle.jitter_model.specs.Accepted.{Taken, top, least, accepted}
+use Rattle.jitter_model.specs.Covered.{next, next_after}
+use Rattle.jitter_model.specs.Turns.{Sight, sight}
+use Rattle.jitter_model.specs.Runs.{Run}
+use Rattle.jitter_model.specs.Laws.{IsWindow}
+use Rattle.jitter_model.proofs.Covers.{Covers, covers}
+use Rattle.jitter_model.proofs.Numbered.{pushes_most}
+use Rattle.jitter_model.proofs.Window.{window}
+use Rattle.jitter_core.specs.declared.buffer.Buffer.{Buffer}
+use Rattle.jitter_core.specs.Words.{Stands}
+use Rattle.bin_core.specs.declared.counted.Counts.{Counts}
+use Rattle.bin_core.specs.Totals.{turn_out, turn_lost, refusal, with_turn, with_push, outs, losses, refusals, CountsOf, IsCounted}
+
+-- how many numbers from the lowest to the greatest are still to be covered
+abbrev pub uncovered : Option ℕ → Option ℕ → Option ℕ → ℕ
+uncovered None least next = 0
+uncovered (Some t) least None = t + 1 - unwrap_or least 0
+uncovered (Some t) least (Some n) = t + 1 - n
+
+uncovered_few : (t m n : Option ℕ) → IsWindow t m n → uncovered t m n ≤ 8192
+uncovered_few None m n = λ w. omega arith
+uncovered_few (Some t) None None = λ w. absurd w
+uncovered_few (Some t) None (Some n) = λ w. absurd w
+uncovered_few (Some t) (Some m) None = λ w. omega (arith, w.0, w.1)
+uncovered_few (Some t) (Some m) (Some n) = λ w. omega (arith, w.0, w.1)
+
+-- a reply covers numbers that were not covered
+covering : (v : Sight) (t m o : Option ℕ) (r : Turn) → v.least ≡ unwrap_or m 0 → Covers v o r → IsWindow t m (next_after o r) → turn_out r + turn_lost r + uncovered t m (next_after o r) ≤ uncovered t m o
+covering v (Some t) (Some m) None (Packet n pts p) = λ e c w. omega (arith, c.0, w.1, w.2)
+covering v (Some t) (Some m) (Some k) (Packet n pts p) = λ e c w. omega (arith, c.0, w.1)
+covering v (Some t) None o (Packet n pts p) = λ e c w. absurd w
+covering v None (Some m) o (Packet n pts p) = λ e c w. absurd w
+covering v None None o (Packet n pts p) = λ e c w. absurd w
+covering v (Some t) (Some m) (Some k) (Lost n count pts d) = λ e c w. omega (arith, c.0, w.1)
+covering v (Some t) None (Some k) (Lost n count pts d) = λ e c w. absurd w
+covering v None (Some m) (Some k) (Lost n count pts d) = λ e c w. absurd w
+covering v None None (Some k) (Lost n count pts d) = λ e c w. absurd w
+covering v t m None (Lost n count pts d) = λ e c w. absurd c
+covering v t m o (Request n k) = λ e c w. omega arith
+covering v t m o End = λ e c w. omega arith
+covering v t m o (Idle wake) = λ e c w. omega arith
+covering v t m o Flushing = λ e c w. omega arith
+
+abbrev pub uncovered_in : History → ℕ
+uncovered_in h = uncovered (top (accepted h)) (least (accepted h)) (next h)
+
+few_in : (s : Settings) (h : History) → Run s h → uncovered_in h ≤ 8192
+few_in s h run = uncovered_few (top (accepted h)) (least (accepted h)) (next h) (window s h run).fact
+
+turned_covers : (s : Settings) (h : History) (r : Turn) → Run s (Turned r ∷ h) → turn_out r + turn_lost r + uncovered_in (Turned r ∷ h) ≤ uncovered_in h
+turned_covers s h r run =
+    covering (sight s h) (top (accepted h)) (least (accepted h)) (next h) r refl (covers s h r run.0).fact (window s (Turned r ∷ h) run).fact
+
+flushed : (b : Bool) (ps : List Taken) (o : Option ℕ) → uncovered (top (if b then [] else ps)) (least (if b then [] else ps)) (if b then None else o) ≤ uncovered (top ps) (least ps) o
+flushed true ps o = omega arith
+flushed false ps o = omega arith
+
+pub covered_few : (s : Settings) (h : History) → Run s h → outs h + losses h + uncovered_in h ≤ 8192 * pushes h
+covered_few s [] run = omega arith
+covered_few s (Push a v n d ∷ h) run = omega (arith, covered_few s h run.1, few_in s (Push a v n d ∷ h) run)
+covered_few s (Clock t ∷ h) run = covered_few s h run.1
+covered_few s (FlushStart d ∷ h) run = covered_few s h run.1
+covered_few s (FlushStop ∷ h) run = omega (arith, covered_few s h run, flushed (is_flushing h) (accepted h) (next h))
+covered_few s (Latency ns ∷ h) run = covered_few s h run.1
+covered_few s (Report ntp rtp reply ∷ h) run = covered_few s h run.1
+covered_few s (Ends p ∷ h) run = covered_few s h run.1
+covered_few s (Turned r ∷ h) run = omega (arith, covered_few s h run.1, turned_covers s h r run)
+
+refusal_one : (v : Verdict) → refusal v ≤ 1
+refusal_one verdict.Accepted = omega arith
+refusal_one verdict.Aside = omega arith
+refusal_one (verdict.Restart d) = omega arith
+refusal_one verdict.Late = omega arith
+refusal_one verdict.Duplicate = omega arith
+refusal_one verdict.Full = omega arith
+refusal_one verdict.Stray = omega arith
+refusal_one verdict.Flushing = omega arith
+refusal_one verdict.Ended = omega arith
+
+refused_few : (h : History) → refusals h ≤ pushes h
+refused_few [] = omega arith
+refused_few (Push a v n d ∷ h) = omega (arith, refused_few h, refusal_one v)
+refused_few (Clock t ∷ h) = refused_few h
+refused_few (FlushStart d ∷ h) = refused_few h
+refused_few (FlushStop ∷ h) = refused_few h
+refused_few (Latency ns ∷ h) = refused_few h
+refused_few (Report ntp rtp reply ∷ h) = refused_few h
+refused_few (Ends p ∷ h) = refused_few h
+refused_few (Turned r ∷ h) = refused_few h
+
+-- ---- what holds of a counted buffer, whatever history it stands for
+
+pub record HasRoom (c : Counts) : Type 0 where
+  pub out : c.out < 2 ^ 64
+  pub lost : c.lost < 2 ^ 64
+  pub refused : c.refused < 2 ^ 64
+
+room_of : (b : Buffer) (c : Counts) (h : History) → CountsOf b c h → HasRoom c
+room_of b c h k =
+    let run : Run (b.state.settings) h = k.stands.run in
+    let few : outs h + losses h + uncovered_in h ≤ 8192 * pushes h = covered_few b.state.settings h run in
+    let most : pushes h ≤ 2147483648 = pushes_most b.state.settings h run in
+    let refused : refusals h ≤ pushes h = refused_few h in
+    record { out = omega (arith, k.out); lost = omega (arith, k.lost); refused = omega (arith, k.refused) }
+
+-- a turn is counted
+pub turn_counted : (old new : Buffer) (c : Counts) (r : Turn) → ((h : History) → Stands old h → Stands new (Turned r ∷ h)) → IsCounted old c → IsCounted new (with_turn c r)
+turn_counted old new c r stands k =
+    ∥∥₁_elim k (hlevel props)
+    (λ x. ∣ (Turned r ∷ x.0, record { stands = stands x.0 x.1.stands; out = ap (λ (n : ℕ). n + turn_out r) x.1.out; lost = ap (λ (n : ℕ). n + turn_lost r) x.1.lost; refused = x.1.refused }) ∣₁)
+
+-- a push is counted
+pub push_counted : (old new : Buffer) (c : Counts) (a : Arrival) (v : Verdict) (n d : ℕ) → ((h : History) → Stands old h → Stands new (Push a v n d ∷ h)) → IsCounted old c → IsCounted new (with_push c v)
+push_counted old new c a v n d stands k =
+    ∥∥₁_elim k (hlevel props)
+    (λ x. ∣ (Push a v n d ∷ x.0, record { stands = stands x.0 x.1.stands; out = x.1.out; lost = x.1.lost; refused = ap (λ (m : ℕ). m + refusal v) x.1.refused }) ∣₁)
+
+pub clock_counted : (old new : Buffer) (c : Counts) (t : ℕ) → ((h : History) → Stands old h → Stands new (Clock t ∷ h)) → IsCounted old c → IsCounted new c
+clock_counted old new c t stands k =
+    ∥∥₁_elim k (hlevel props) (λ x. ∣ (Clock t ∷ x.0, record { stands = stands x.0 x.1.stands; out = x.1.out; lost = x.1.lost; refused = x.1.refused }) ∣₁)
+
+pub end_counted : (old new : Buffer) (c : Counts) (p : ℕ) → ((h : History) → Stands old h → Stands new (Ends p ∷ h)) → IsCounted old c → IsCounted new c
+end_counted old new c p stands k =
+    ∥∥₁_elim k (hlevel props) (λ x. ∣ (Ends p ∷ x.0, record { stands = stands x.0 x.1.stands; out = x.1.out; lost = x.1.lost; refused = x.1.refused }) ∣₁)
+
+pub fresh_counted : (b : Buffer) → Stands b [] → IsCounted b (record { out = 0; lost = 0; refused = 0 })
+fresh_counted b st = ∣ ([], record { stands = st; out = refl; lost = refl; refused = refl }) ∣₁
+
+-- the counts with a reply fit their types
+pub has_room : (b : Buffer) (c : Counts) → IsCounted b c → HasRoom c
+has_room b c k = record {
+  out = ∥∥₁_elim k (hlevel props) (λ x. (room_of b c x.0 x.1).out);
+  lost = ∥∥₁_elim k (hlevel props) (λ x. (room_of b c x.0 x.1).lost);
+  refused = ∥∥₁_elim k (hlevel props) (λ x. (room_of b c x.0 x.1).refused);
+}

@@ -1,0 +1,16 @@
+use Rattle.std.proofs.Common.{subst, sym}
+use Rattle.bin_core.specs.Totals.{with_push, IsCounted}
+use Rattle.bin_core.proofs.Totals.{has_room, push_counted}
+use Rattle.bin_core.proofs.counted.push_arrival.Goals as goal
+
+pub count_push-lane-requires : goal.count_push-lane-requires
+count_push-lane-requires c =
+    (has_room c.push-answer.new.buffer (with_push c.args.lane.now.counts c.push-answer.result.verdict)
+    (push_counted c.args.lane.now.buffer c.push-answer.new.buffer c.args.lane.now.counts c.args.arrival c.push-answer.result.verdict c.push-answer.result.number c.push-answer.result.aside_dropped c.push-answer.ensures.stands c.args.lane.now.counted)).refused
+
+pub invariant_of-lane : goal.invariant_of-lane
+invariant_of-lane c =
+    record {
+      counted = subst (IsCounted c.push-answer.new.buffer) (sym c.count_push-lane.ensures)
+          (push_counted c.args.lane.now.buffer c.push-answer.new.buffer c.args.lane.now.counts c.args.arrival c.push-answer.result.verdict c.push-answer.result.number c.push-answer.result.aside_dropped c.push-answer.ensures.stands c.args.lane.now.counted);
+    }

@@ -1,0 +1,47 @@
+use Rattle.std.proofs.Common.{◌∷◌, ◌∙◌, sym, arith}
+use Rattle.jitter_model.specs.declared.Entry.TheVariants.{Push}
+use Rattle.jitter_core.proofs.Following.{is_next, next_top, next_from, next_range, next_timers}
+use Rattle.jitter_core.proofs.Passing.{pusher_small}
+use Rattle.jitter_core.proofs.Pushes.{push_keeps}
+use Rattle.jitter_core.proofs.Reached.{reached_after, reached_bounded, reached_list, reached_run, reached_pushers}
+use Rattle.jitter_core.proofs.Retiming.{refused_timed}
+use Rattle.jitter_core.proofs.Timers.{few_timers, few_gaps}
+use Rattle.jitter_core.proofs.pushing.push_on.Goals as goal
+
+pub is_in_order-in_order-requires : goal.is_in_order-in_order-requires
+is_in_order-in_order-requires g c = reached_bounded c.args.state.now c.requires.reached
+
+pub push_packet-pushed-requires-clause-bounded : goal.push_packet-pushed-requires-clause-bounded
+push_packet-pushed-requires-clause-bounded g c = reached_bounded c.args.state.now c.requires.reached
+
+pub push_packet-pushed-requires-clause-aside : goal.push_packet-pushed-requires-clause-aside
+push_packet-pushed-requires-clause-aside g c = reached_list c.args.state.now c.requires.reached
+
+pub push_packet-pushed-requires-clause-run : goal.push_packet-pushed-requires-clause-run
+push_packet-pushed-requires-clause-run g c = reached_run c.args.state.now c.requires.reached
+
+pub push_packet-pushed-requires-clause-pusher : goal.push_packet-pushed-requires-clause-pusher
+push_packet-pushed-requires-clause-pusher g c = pusher_small c.args.state.now.settings.pushers c.args.a.pusher (reached_pushers c.args.state.now c.requires.reached) c.requires.pusher
+
+pub retime-requires-clause-bounded : goal.retime-requires-clause-bounded
+retime-requires-clause-bounded g c =
+    reached_bounded c.push_packet-pushed.new.state
+    (reached_after c.args.state.now c.push_packet-pushed.new.state (λ h. Push c.args.a c.push_packet-pushed.result.verdict c.push_packet-pushed.result.number c.push_packet-pushed.result.aside_dropped ∷ h)
+    (λ h st. push_keeps c.args.state.now c.push_packet-pushed.new.state h c.args.a c.push_packet-pushed.result st c.push_packet-pushed.ensures c.requires.few c.requires.range c.requires.pusher) c.requires.reached)
+
+pub retime-requires-clause-refused : goal.retime-requires-clause-refused
+retime-requires-clause-refused g c = λ e.
+    refused_timed c.args.state.now c.push_packet-pushed.new.state c.args.schedule.now c.args.a c.push_packet-pushed.result c.push_packet-pushed.ensures e c.requires.timed
+
+pub retime-requires-clause-follows : goal.retime-requires-clause-follows
+retime-requires-clause-follows g c = λ e v fresh.
+    let b = reached_bounded c.args.state.now c.requires.reached in
+    let x = is_next c.args.state.now c.push_packet-pushed.new.state c.args.a c.push_packet-pushed.result c.push_packet-pushed.ensures v (sym c.is_in_order-in_order.ensures ∙ e) in
+    let right = c.requires.timed.right fresh in
+    record {
+      top = next_top c.args.state.now c.push_packet-pushed.new.state c.args.a c.push_packet-pushed.result.number x;
+      low = next_from c.args.state.now c.push_packet-pushed.new.state c.args.a c.push_packet-pushed.result.number b x;
+      few = omega (arith, few_timers c.args.state.now c.args.schedule.now.timers.times b right, few_gaps c.args.state.now b);
+      within = next_range c.args.state.now c.push_packet-pushed.new.state c.args.a c.push_packet-pushed.result.number c.args.schedule.now.timers.times b x right;
+      others = next_timers c.args.state.now c.push_packet-pushed.new.state c.args.a c.push_packet-pushed.result.number c.args.schedule.now.timers.times b x right;
+    }

@@ -1,0 +1,102 @@
+-- A timeline only grows, so its lines go on.
+use Rattle.std.proofs.Common.{ℕ, zero, suc, ◌≡◌, Bool, true, false, refl, sym, ap, subst, ◌∙◌, List, [], ◌∷◌, ◌++◌, Option, None, Some}
+use Rattle.std.specs.Prelude.{if◌then◌else◌, reverse, length}
+use Rattle.std.proofs.lemmas.List.{append_assoc, append-nil, reverse-append}
+use Rattle.jitter_model.specs.declared.Settings.{Settings}
+use Rattle.jitter_model.specs.declared.Entry.{Entry}
+use Rattle.jitter_model.specs.declared.Entry.TheVariants.{Clock, Ends, Turned}
+use Rattle.jitter_model.specs.Turns.{turn, is_quiet, left}
+use Rattle.timeline.specs.declared.line.BinLine.{BinLine}
+use Rattle.log_model.specs.declared.TheConstants.{SESSION, CONTROL, END_OF_TIME}
+use Rattle.log_model.specs.Times.{Timed}
+use Rattle.log_model.specs.Front.{Delivery, Brought, brings, lane_count}
+use Rattle.log_model.specs.Events.{Timeline, Event, Told, At, lane, lines, event_lines, done_line}
+use Rattle.log_model.specs.Waking.{turned, turns, settled, ticked, wake, Wake, first_wake, due, rooms, serve, serve_due, served, arrival_at, pushed, delivered, ended, all_ended}
+use Rattle.log_model.specs.Log.{all_told, with_brought, with_record, timeline, closed, whole_timeline, log_part, log, Begins}
+
+-- the new timeline has the old one's lines first
+pub record Grows (old new : Timeline) : Type 0 where
+  pub more : List BinLine
+  pub is : lines new ≡ lines old ++ more
+
+grows_same : (tl : Timeline) → Grows tl tl
+grows_same tl = record { more = []; is = sym (append-nil (lines tl)) }
+
+grows_then : (a b c : Timeline) → Grows a b → Grows b c → Grows a c
+grows_then a b c g h = record { more = g.more ++ h.more; is = h.is ∙ ap (λ (x : List BinLine). x ++ h.more) g.is ∙ append_assoc (lines a) g.more h.more }
+
+grows_one : (e : Event) (tl : Timeline) → Grows tl (e ∷ tl)
+grows_one e tl = record { more = event_lines e; is = refl }
+
+split : (P : Timeline → Type 0) (b : Bool) (x y : Timeline) → P x → P y → P (if b then x else y)
+split P true x y f g = f
+split P false x y f g = g
+
+turns_grow : (n : ℕ) (s : Settings) (t l : ℕ) (tl : Timeline) → Grows tl (turns n s t l tl)
+turns_grow zero s t l tl = grows_same tl
+turns_grow (suc n) s t l tl =
+    split (Grows tl) (is_quiet (turn s (lane l tl))) _ _ (grows_same tl)
+    (grows_then tl (turned s t l tl) _ (grows_one (At t l (Turned (turn s (lane l tl)))) tl) (turns_grow n s t l (turned s t l tl)))
+
+entered_grows : (s : Settings) (t l : ℕ) (e : Entry) (tl : Timeline) → Grows tl (settled s t l (At t l e ∷ tl))
+entered_grows s t l e tl = grows_then tl (At t l e ∷ tl) _ (grows_one (At t l e) tl) (turns_grow (left s (lane l (At t l e ∷ tl))) s t l (At t l e ∷ tl))
+
+ticked_grows : (s : Settings) (t l : ℕ) (tl : Timeline) → Grows tl (ticked s t l tl)
+ticked_grows s t l tl = entered_grows s t l (Clock t) tl
+
+due_grows : (more : Timeline → Timeline) (s : Settings) (o : Option Wake) (tl : Timeline) → ((x : Timeline) → Grows x (more x)) → Grows tl (serve_due more s o tl)
+due_grows more s None tl g = grows_same tl
+due_grows more s (Some w) tl g = grows_then tl (ticked s w.time w.lane tl) _ (ticked_grows s w.time w.lane tl) (g (ticked s w.time w.lane tl))
+
+serve_grows : (n : ℕ) (s : Settings) (count limit : ℕ) (tl : Timeline) → Grows tl (serve n s count limit tl)
+serve_grows zero s count limit tl = grows_same tl
+serve_grows (suc n) s count limit tl = due_grows (serve n s count limit) s (due limit (first_wake (wake s tl) count)) tl (λ x. serve_grows n s count limit x)
+
+served_grows : (s : Settings) (count limit : ℕ) (tl : Timeline) → Grows tl (served s count limit tl)
+served_grows s count limit tl = serve_grows (rooms limit (wake s tl) count) s count limit tl
+
+told_grows : (t : ℕ) (xs : List BinLine) (tl : Timeline) → Grows tl (all_told t xs tl)
+told_grows t [] tl = grows_same tl
+told_grows t (x ∷ xs) tl = grows_then tl (Told t x ∷ tl) _ (grows_one (Told t x) tl) (told_grows t xs (Told t x ∷ tl))
+
+delivered_grows : (s : Settings) (t : ℕ) (o : Option Delivery) (tl : Timeline) → Grows tl (delivered s t o tl)
+delivered_grows s t None tl = grows_same tl
+delivered_grows s t (Some d) tl =
+    grows_then tl (pushed s t d.lane (arrival_at t d.packet) tl) _ (grows_one _ tl) (ticked_grows s t d.lane (pushed s t d.lane (arrival_at t d.packet) tl))
+
+brought_grows : (s : Settings) (t : ℕ) (b : Brought) (tl : Timeline) → Grows tl (with_brought s t b tl)
+brought_grows s t b tl = grows_then tl (all_told t b.lines tl) _ (told_grows t b.lines tl) (delivered_grows s t b.delivery (all_told t b.lines tl))
+
+record_grows : (s : Settings) (older : List Timed) (r : Timed) (tl : Timeline) → Grows tl (with_record s older r tl)
+record_grows s older r tl =
+    grows_then tl (served s (lane_count older) r.time tl) _ (served_grows s (lane_count older) r.time tl) (brought_grows s r.time (brings s older r) (served s (lane_count older) r.time tl))
+
+timeline_grows : (s : Settings) (newer older : List Timed) → Grows (timeline s older) (timeline s (newer ++ older))
+timeline_grows s [] older = grows_same (timeline s older)
+timeline_grows s (r ∷ newer) older =
+    grows_then (timeline s older) (timeline s (newer ++ older)) _ (timeline_grows s newer older) (record_grows s (newer ++ older) r (timeline s (newer ++ older)))
+
+ended_grows : (s : Settings) (t l : ℕ) (tl : Timeline) → Grows tl (ended s t l tl)
+ended_grows s t l tl =
+    grows_then tl (settled s t l (At t l (Ends SESSION) ∷ tl)) _ (entered_grows s t l (Ends SESSION) tl) (entered_grows s t l (Ends CONTROL) (settled s t l (At t l (Ends SESSION) ∷ tl)))
+
+all_ended_grows : (s : Settings) (t count : ℕ) (tl : Timeline) → Grows tl (all_ended s t count tl)
+all_ended_grows s t zero tl = grows_same tl
+all_ended_grows s t (suc l) tl = grows_then tl (all_ended s t l tl) _ (all_ended_grows s t l tl) (ended_grows s t l (all_ended s t l tl))
+
+closed_grows : (s : Settings) (lanes : ℕ) (tl : Timeline) → Grows tl (closed s lanes tl)
+closed_grows s lanes tl = grows_then tl (served s lanes END_OF_TIME tl) _ (served_grows s lanes END_OF_TIME tl) (all_ended_grows s _ lanes (served s lanes END_OF_TIME tl))
+
+part_grows : (s : Settings) (rs more : List Timed) → Grows (timeline s (reverse rs)) (timeline s (reverse (rs ++ more)))
+part_grows s rs more =
+    subst (λ (xs : List Timed). Grows (timeline s (reverse rs)) (timeline s xs)) (sym (reverse-append rs more)) (timeline_grows s (reverse more) (reverse rs))
+
+pub part : (s : Settings) (rs more : List Timed) → Begins (log_part s rs) (log_part s (rs ++ more))
+part s rs more = let g : Grows (timeline s (reverse rs)) (timeline s (reverse (rs ++ more))) = part_grows s rs more in (g.more, g.is)
+
+pub whole : (s : Settings) (rs more : List Timed) → Begins (log_part s rs) (log s (rs ++ more))
+whole s rs more =
+    let all : List Timed = reverse (rs ++ more) in
+    let g : Grows (timeline s (reverse rs)) (whole_timeline s all) = grows_then (timeline s (reverse rs)) (timeline s all) (whole_timeline s all) (part_grows s rs more) (closed_grows s (lane_count all) (timeline s all)) in
+    let last : List BinLine = done_line (length (rs ++ more)) (lane_count all) (lines (whole_timeline s all)) ∷ [] in
+    (g.more ++ last, ap (λ (x : List BinLine). x ++ last) g.is ∙ append_assoc (log_part s rs) g.more last)

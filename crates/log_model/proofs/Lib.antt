@@ -1,0 +1,7 @@
+pub mod Lanes
+pub mod Turning
+pub mod Serving
+pub mod Growing
+pub mod Passing
+pub mod Bytes
+pub mod Running

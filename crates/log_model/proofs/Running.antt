@@ -1,0 +1,186 @@
+-- Each lane of a replay is a run of the list machine.
+use Rattle.std.proofs.Common.{ℕ, zero, suc, ◌≡◌, ◌≢◌, ◌+◌, ◌-◌, ◌≤◌, ◌<◌, ◌^◌, true, ◌&&◌, not, refl, sym, ap, subst, ◌∙◌, List, [], ◌∷◌, Option, None, Some, length, drop, arith}
+use Rattle.std.specs.Prelude.{All, Result, Ok, Err, ◌==◌, slice_index, reverse}
+use Rattle.std.proofs.lemmas.Grind.{common_steps}
+use Rattle.std.proofs.lemmas.List.{length-take, length-drop, length-reverse, reverse-append}
+use Rattle.std.proofs.lemmas.List.Elements.{All-head, All-tail, All-cons, All-append}
+use Rattle.rtp_units.specs.declared.shared.Address.{Address}
+use Rattle.pcap_file.specs.Datagrams.{Sent, datagram_of}
+use Rattle.pcap_file.specs.declared.udp.Skip.{Skip}
+use Rattle.rtp_wire.specs.Packet.{first_fault, header_end}
+use Rattle.rtp_wire.specs.View.{packet_of, payload_of, padding_of}
+use Rattle.rtp_wire.specs.declared.fault.RtpFault.{RtpFault}
+use Rattle.jitter_model.specs.declared.Settings.{Settings}
+use Rattle.jitter_model.specs.declared.Packet.{Packet}
+use Rattle.jitter_model.specs.declared.Arrival.{Arrival}
+use Rattle.jitter_model.specs.declared.Entry.{Entry}
+use Rattle.jitter_model.specs.declared.Entry.TheVariants.{Clock, Turned}
+use Rattle.jitter_model.specs.History.{History, pushes, is_pusher}
+use Rattle.jitter_model.specs.Turns.{turn, is_quiet}
+use Rattle.jitter_model.specs.Runs.{IsValid, IsInRange, Run}
+use Rattle.timeline.specs.declared.line.BinLine.{BinLine}
+use Rattle.log_model.specs.declared.TheConstants.{SESSION, PAYLOAD_TYPE, OWN_SSRC, RTP_PORT, RTCP_PORT}
+use Rattle.log_model.specs.declared.Heard.{Heard}
+use Rattle.log_model.specs.declared.Heard.TheVariants as heard
+use Rattle.log_model.specs.Times.{Timed}
+use Rattle.log_model.specs.Captured.{IsCaptured, IsReplay}
+use Rattle.log_model.specs.Front.{Brought, packet_from, heard_payload, heard_datagram, heard_of, source_of, lane_count, is_source, opening, brought}
+use Rattle.log_model.specs.Events.{Timeline, Told, At, lane}
+use Rattle.log_model.specs.Waking.{turned, turns, ticked, wake, rooms, serve, served, arrival_at, entry_of, pushed}
+use Rattle.log_model.specs.Log.{all_told, with_brought, timeline}
+use Rattle.jitter_model.specs.Verdicts.{pushed as reply_to_push}
+use Rattle.log_model.proofs.Bytes.{IsByte, Good, pick, datagram_good}
+use Rattle.log_model.proofs.Lanes.{lane_here, lane_other, by_cases}
+use Rattle.log_model.proofs.Turning.{turns_quiet, turns_more}
+use Rattle.log_model.proofs.Serving.{by_option, serve_none, serve_some, next_due, ticked_runs, serve_runs}
+
+-- ---- a packet that is heard has its numbers in their ranges
+
+index_small : (xs : List ℕ) (i : ℕ) → All IsByte xs → slice_index xs i < 256
+index_small [] i h = omega arith
+index_small (x ∷ xs) zero h = All-head IsByte x xs h
+index_small (x ∷ xs) (suc i) h = index_small xs i (All-tail IsByte x xs h)
+
+abbrev IsRanged : ℕ → Heard → Type 0
+IsRanged t (heard.Packet source p) = IsInRange (arrival_at t p)
+IsRanged t x = Unit {0}
+
+record Ranged (t : ℕ) (x : Heard) : Type 0 where
+  fact : IsRanged t x
+
+payload_short : (bytes : List ℕ) (from padding : ℕ) → length bytes ≤ 9216 → length (payload_of bytes from padding) ≤ 9216
+payload_short bytes from padding le = omega (arith, length-take (length bytes - padding - from) (drop from bytes), length-drop from bytes)
+
+packet_range : (t : ℕ) (bytes : List ℕ) → t < 2 ^ 63 → length bytes ≤ 9216 → All IsByte bytes → IsInRange (arrival_at t (packet_from (packet_of bytes)))
+packet_range t bytes early short h =
+    let two : slice_index bytes 2 < 256 = index_small bytes 2 h in
+    let three : slice_index bytes 3 < 256 = index_small bytes 3 h in
+    let four : slice_index bytes 4 < 256 = index_small bytes 4 h in
+    let five : slice_index bytes 5 < 256 = index_small bytes 5 h in
+    let six : slice_index bytes 6 < 256 = index_small bytes 6 h in
+    let seven : slice_index bytes 7 < 256 = index_small bytes 7 h in
+    let most : length (payload_of bytes (header_end bytes) (padding_of bytes)) ≤ 9216 = payload_short bytes (header_end bytes) (padding_of bytes) short in
+    record { pusher = omega arith; k = omega arith; stamp = early; seq = omega arith; rtp = omega arith; pt = omega arith; payload = omega arith }
+
+payload_ranged : (t : ℕ) (from : Address) (bytes : List ℕ) (o : Option RtpFault) → t < 2 ^ 63 → length bytes ≤ 9216 → All IsByte bytes → Ranged t (heard_payload from bytes o)
+payload_ranged t from bytes (Some fault) early short h = record { fact = tt }
+payload_ranged t from bytes None early short h =
+    pick (Ranged t) ((packet_of bytes).pt == PAYLOAD_TYPE && not ((packet_of bytes).ssrc == OWN_SSRC)) _ _ (λ _. record { fact = packet_range t bytes early short h }) (λ _. record { fact = tt })
+
+datagram_ranged : (t : ℕ) (o : Result Sent Skip) → t < 2 ^ 63 → Good o → Ranged t (heard_datagram o)
+datagram_ranged t (Err why) early g = record { fact = tt }
+datagram_ranged t (Ok d) early g =
+    pick (Ranged t) (d.to.port == RTP_PORT) _ _ (λ _. payload_ranged t d.from d.payload (first_fault d.payload) early g.fact.0 g.fact.1)
+    (λ _. pick (Ranged t) (d.to.port == RTCP_PORT) _ _ (λ _. record { fact = tt }) (λ _. record { fact = tt }))
+
+heard_ranged : (r : Timed) → IsCaptured r → Ranged r.time (heard_of r.captured)
+heard_ranged r c = datagram_ranged r.time (datagram_of r.captured) c.early (datagram_good r.captured c.bytes)
+
+-- ---- how many packets came to a lane
+
+event_pushes : (t k l : ℕ) (e : Entry) (tl : Timeline) → ((h : History) → pushes (e ∷ h) ≡ pushes h) → pushes (lane l (At t k e ∷ tl)) ≡ pushes (lane l tl)
+event_pushes t k l e tl same =
+    by_cases (k == l)
+    (λ q. let eq : k ≡ l = grind (arith, common_steps) in
+    subst (λ (m : ℕ). pushes (lane l (At t m e ∷ tl)) ≡ pushes (lane l tl)) (sym eq) (ap pushes (lane_here t l e tl) ∙ same (lane l tl)))
+    (λ q. let ne : k ≢ l = grind (arith, common_steps) in ap pushes (lane_other t k l e tl ne))
+
+turns_pushes : (n : ℕ) (s : Settings) (t k l : ℕ) (tl : Timeline) → pushes (lane l (turns n s t k tl)) ≡ pushes (lane l tl)
+turns_pushes zero s t k l tl = refl
+turns_pushes (suc n) s t k l tl =
+    by_cases (is_quiet (turn s (lane k tl)))
+    (λ i. ap (λ (x : Timeline). pushes (lane l x)) (turns_quiet (suc n) s t k tl i))
+    (λ i. ap (λ (x : Timeline). pushes (lane l x)) (turns_more n s t k tl i) ∙ turns_pushes n s t k l (turned s t k tl) ∙ event_pushes t k l (Turned (turn s (lane k tl))) tl (λ h. refl))
+
+ticked_pushes : (s : Settings) (t k l : ℕ) (tl : Timeline) → pushes (lane l (ticked s t k tl)) ≡ pushes (lane l tl)
+ticked_pushes s t k l tl = turns_pushes _ s t k l (At t k (Clock t) ∷ tl) ∙ event_pushes t k l (Clock t) tl (λ h. refl)
+
+serve_pushes : (n : ℕ) (s : Settings) (count limit l : ℕ) (tl : Timeline) → pushes (lane l (serve n s count limit tl)) ≡ pushes (lane l tl)
+serve_pushes zero s count limit l tl = refl
+serve_pushes (suc n) s count limit l tl =
+    by_option (next_due s count limit tl)
+    (λ e. ap (λ (x : Timeline). pushes (lane l x)) (serve_none (suc n) s count limit tl e))
+    (λ w e. ap (λ (x : Timeline). pushes (lane l x)) (serve_some n s count limit tl w e) ∙ serve_pushes n s count limit l (ticked s w.time w.lane tl) ∙ ticked_pushes s w.time w.lane l tl)
+
+-- ---- lanes after some records
+
+-- each lane is a run, and has no more packets than there were records
+record AreReady (s : Settings) (count : ℕ) (tl : Timeline) : Type 0 where
+  runs : (l : ℕ) → Run s (lane l tl)
+  few : (l : ℕ) → pushes (lane l tl) ≤ count
+
+ticked_run : (s : Settings) (t k : ℕ) (tl : Timeline) → t < 2 ^ 63 + 2 ^ 50 → ((l : ℕ) → Run s (lane l tl)) → (l : ℕ) → Run s (lane l (ticked s t k tl))
+ticked_run s t k tl lt runs l = ticked_runs s (suc l) t k tl lt (λ m _. runs m) l (omega arith)
+
+ticked_ready : (s : Settings) (count t k : ℕ) (tl : Timeline) → t < 2 ^ 63 → AreReady s count tl → AreReady s count (ticked s t k tl)
+ticked_ready s count t k tl lt h =
+    record { runs = ticked_run s t k tl (omega arith) h.runs; few = λ l. omega (arith, ticked_pushes s t k l tl, h.few l) }
+
+served_ready : (s : Settings) (many count limit : ℕ) (tl : Timeline) → limit < 2 ^ 63 → AreReady s many tl → AreReady s many (served s count limit tl)
+served_ready s many count limit tl lt h =
+    record {
+      runs = λ l. serve_runs (rooms limit (wake s tl) count) s (suc l) count limit tl (omega arith) (λ m _. h.runs m) l (omega arith);
+      few = λ l. omega (arith, serve_pushes (rooms limit (wake s tl) count) s count limit l tl, h.few l);
+    }
+
+told_ready : (s : Settings) (count t : ℕ) (xs : List BinLine) (tl : Timeline) → AreReady s count tl → AreReady s count (all_told t xs tl)
+told_ready s count t [] tl h = h
+told_ready s count t (x ∷ xs) tl h = told_ready s count t xs (Told t x ∷ tl) (record { runs = h.runs; few = h.few })
+
+session_pushes : (pushers : ℕ) → pushers ≡ 257 → is_pusher pushers SESSION ≡ true
+session_pushes pushers e = ap (λ (n : ℕ). is_pusher n SESSION) e
+
+pushed_run : (s : Settings) (t k l : ℕ) (p : Packet) (tl : Timeline) → s.pushers ≡ 257 → IsInRange (arrival_at t p) → pushes (lane k tl) < 2147483648 → ((m : ℕ) → Run s (lane m tl)) → Run s (lane l (pushed s t k (arrival_at t p) tl))
+pushed_run s t k l p tl pushers range few runs =
+    by_cases (k == l)
+    (λ q. let eq : k ≡ l = grind (arith, common_steps) in
+    subst (λ (m : ℕ). Run s (lane m (pushed s t k (arrival_at t p) tl))) eq
+    (subst (Run s) (sym (lane_here t k (entry_of (arrival_at t p) (reply_to_push s (lane k tl) (arrival_at t p))) tl))
+    (record { pusher = session_pushes s.pushers pushers; few = few; in_range = range; verdict_is = refl; number_is = refl; dropped_is = refl }, runs k)))
+    (λ q. let ne : k ≢ l = grind (arith, common_steps) in
+    subst (Run s) (sym (lane_other t k l (entry_of (arrival_at t p) (reply_to_push s (lane k tl) (arrival_at t p))) tl ne)) (runs l))
+
+pushed_few : (s : Settings) (count t k l : ℕ) (a : Arrival) (tl : Timeline) → pushes (lane l tl) ≤ count → pushes (lane l (pushed s t k a tl)) ≤ suc count
+pushed_few s count t k l a tl le =
+    by_cases (k == l)
+    (λ q. let eq : k ≡ l = grind (arith, common_steps) in
+    let one : pushes (lane k (pushed s t k a tl)) ≡ pushes (lane k tl) + 1 = ap pushes (lane_here t k (entry_of a (reply_to_push s (lane k tl) a)) tl) in
+    subst (λ (m : ℕ). pushes (lane m (pushed s t k a tl)) ≤ suc count) eq (let le_k : pushes (lane k tl) ≤ count = subst (λ (m : ℕ). pushes (lane m tl) ≤ count) (sym eq) le in omega arith))
+    (λ q. let ne : k ≢ l = grind (arith, common_steps) in
+    let same : pushes (lane l (pushed s t k a tl)) ≡ pushes (lane l tl) = ap pushes (lane_other t k l (entry_of a (reply_to_push s (lane k tl) a)) tl ne) in omega arith)
+
+more_ready : (s : Settings) (count : ℕ) (tl : Timeline) → AreReady s count tl → AreReady s (suc count) tl
+more_ready s count tl h = record { runs = h.runs; few = λ l. omega (arith, h.few l) }
+
+given_ready : (s : Settings) (count t : ℕ) (xs : List BinLine) (p : Packet) (tl : Timeline) → s.pushers ≡ 257 → t < 2 ^ 63 → count < 2147483648 → IsInRange (arrival_at t p) → AreReady s count tl → AreReady s (suc count) (with_brought s t (record { lines = xs; delivery = Some (record { lane = 0; packet = p }) }) tl)
+given_ready s count t xs p tl pushers early small range h =
+    let before : AreReady s count (all_told t xs tl) = told_ready s count t xs tl h in
+    ticked_ready s (suc count) t 0 (pushed s t 0 (arrival_at t p) (all_told t xs tl)) early
+    (record {
+      runs = λ l. pushed_run s t 0 l p (all_told t xs tl) pushers range (omega (arith, before.few 0)) before.runs;
+      few = λ l. pushed_few s count t 0 l (arrival_at t p) (all_told t xs tl) (before.few l);
+    })
+
+brought_ready : (s : Settings) (older : List Timed) (r : Timed) (x : Heard) (tl : Timeline) → s.pushers ≡ 257 → r.time < 2 ^ 63 → length older < 2147483648 → Ranged r.time x → AreReady s (length older) tl → AreReady s (suc (length older)) (with_brought s r.time (brought s older r x) tl)
+brought_ready s older r (heard.Skip why) tl pushers early small range h = more_ready s (length older) _ (record { runs = h.runs; few = h.few })
+brought_ready s older r (heard.Bad why) tl pushers early small range h = more_ready s (length older) _ (record { runs = h.runs; few = h.few })
+brought_ready s older r (heard.Packet source p) tl pushers early small range h =
+    pick (λ (b : Brought). AreReady s (suc (length older)) (with_brought s r.time b tl)) (is_source (source_of (r ∷ older)) source) _ _
+    (λ _. given_ready s (length older) r.time (opening s r.time (source_of older) source) p tl pushers early small range.fact h)
+    (λ _. more_ready s (length older) _ (record { runs = h.runs; few = h.few }))
+
+ready : (s : Settings) (rs : List Timed) → IsValid s → s.pushers ≡ 257 → length rs ≤ 2147483648 → All IsCaptured rs → AreReady s (length rs) (timeline s rs)
+ready s [] valid pushers few all = record { runs = λ l. valid; few = λ l. omega arith }
+ready s (r ∷ older) valid pushers few all =
+    let first : IsCaptured r = All-head IsCaptured r older all in
+    brought_ready s older r (heard_of r.captured) (served s (lane_count older) r.time (timeline s older)) pushers first.early (omega arith) (heard_ranged r first)
+    (served_ready s (length older) (lane_count older) r.time (timeline s older) first.early (ready s older valid pushers (omega arith) (All-tail IsCaptured r older all)))
+
+all_reverse : (rs : List Timed) → All IsCaptured rs → All IsCaptured (reverse rs)
+all_reverse [] h = h
+all_reverse (r ∷ rs) h =
+    subst (All IsCaptured) (sym (reverse-append (r ∷ []) rs))
+    (All-append IsCaptured (reverse rs) (r ∷ []) (all_reverse rs (All-tail IsCaptured r rs h)) (All-cons IsCaptured r [] (All-head IsCaptured r rs h) (λ k d lt. absurd (omega arith))))
+
+pub lanes_run : (s : Settings) (rs : List Timed) → IsReplay s rs → (l : ℕ) → Run s (lane l (timeline s (reverse rs)))
+lanes_run s rs h = (ready s (reverse rs) h.valid h.pushers (omega (arith, length-reverse rs, h.few)) (all_reverse rs h.captured)).runs

@@ -1,0 +1,11 @@
+use Rattle.std.specs.Prelude.{reverse}
+use Rattle.log_model.specs.Log.{timeline}
+use Rattle.log_model.proofs.Running.{lanes_run}
+use Rattle.log_model.proofs.Serving.{none_left_at_end}
+use Rattle.log_model.proofs.laws.leaves_no_wake.Goals as goal
+
+pub returns-clause-runs : goal.returns-clause-runs
+returns-clause-runs c = none_left_at_end
+
+pub returns-clause-replay : goal.returns-clause-replay
+returns-clause-replay c = λ s rs h count. none_left_at_end s count (timeline s (reverse rs)) (λ l _. lanes_run s rs h l)

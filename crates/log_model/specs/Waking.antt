@@ -1,0 +1,112 @@
+-- How a timeline goes on: turns, wakes, packets and ends.
+use Rattle.std.specs.Prelude.{ℕ, zero, suc, ◌+◌, ◌-◌, ◌∷◌, Option, Some, None, nat_lt, nat_le, if◌then◌else◌}
+use Rattle.jitter_model.specs.declared.Arrival.{Arrival}
+use Rattle.jitter_model.specs.declared.Origin.TheVariants.{Original}
+use Rattle.jitter_model.specs.declared.Packet.{Packet}
+use Rattle.jitter_model.specs.declared.Pushed.{Pushed}
+use Rattle.jitter_model.specs.declared.Settings.{Settings}
+use Rattle.jitter_model.specs.declared.Entry.{Entry}
+use Rattle.jitter_model.specs.declared.Entry.TheVariants.{Push, Clock, Ends, Turned}
+use Rattle.jitter_model.specs.Verdicts.{pushed as reply_to_push}
+use Rattle.jitter_model.specs.Turns.{turn, is_quiet, wake_of, left}
+use Rattle.log_model.specs.declared.TheConstants.{SESSION, CONTROL}
+use Rattle.log_model.specs.Front.{Delivery}
+use Rattle.log_model.specs.Events.{Timeline, At, lane}
+
+-- ---- turns
+
+-- a turn of a lane
+abbrev pub turned : Settings → ℕ → ℕ → Timeline → Timeline
+turned s t l tl = At t l (Turned (turn s (lane l tl))) ∷ tl
+
+-- turns of a lane, until one is answered Idle or Flushing, and at most so many
+abbrev pub turns : ℕ → Settings → ℕ → ℕ → Timeline → Timeline
+turns zero s t l tl = tl
+turns (suc n) s t l tl = if is_quiet (turn s (lane l tl)) then tl else turns n s t l (turned s t l tl)
+
+-- turns of a lane, until one is answered Idle or Flushing: there are no more of others than `left` says
+abbrev pub settled : Settings → ℕ → ℕ → Timeline → Timeline
+settled s t l tl = turns (left s (lane l tl)) s t l tl
+
+-- a lane's clock comes to a time, and it takes turns
+abbrev pub ticked : Settings → ℕ → ℕ → Timeline → Timeline
+ticked s t l tl = settled s t l (At t l (Clock t) ∷ tl)
+
+-- ---- wakes
+
+-- the time at which a lane wants a turn, if it wants one
+abbrev pub wake : Settings → Timeline → ℕ → Option ℕ
+wake s tl l = wake_of (turn s (lane l tl))
+
+-- a time of a lane
+pub record Wake : Type 0 where
+  pub time : ℕ
+  pub lane : ℕ
+
+-- the earlier one; the first of two at one time
+abbrev pub with_wake : Option Wake → ℕ → Option ℕ → Option Wake
+with_wake first l None = first
+with_wake None l (Some time) = Some (record { time = time; lane = l })
+with_wake (Some first) l (Some time) = if nat_lt time first.time then Some (record { time = time; lane = l }) else Some first
+
+-- the least pair of a time and a lane, among the first lanes
+abbrev pub first_wake : (ℕ → Option ℕ) → ℕ → Option Wake
+first_wake wakes zero = None
+first_wake wakes (suc l) = with_wake (first_wake wakes l) l (wakes l)
+
+-- the wake, where it isn't later than the limit
+abbrev pub due : ℕ → Option Wake → Option Wake
+due limit None = None
+due limit (Some w) = if nat_le w.time limit then Some w else None
+
+-- how often a lane's wake can be served up to the limit, at most: each time it comes to be later
+abbrev pub room : ℕ → Option ℕ → ℕ
+room limit None = 0
+room limit (Some time) = limit + 1 - time
+
+abbrev pub rooms : ℕ → (ℕ → Option ℕ) → ℕ → ℕ
+rooms limit wakes zero = 0
+rooms limit wakes (suc l) = rooms limit wakes l + room limit (wakes l)
+
+-- a wake is a tick of its lane at its time
+abbrev pub serve_due : (Timeline → Timeline) → Settings → Option Wake → Timeline → Timeline
+serve_due more s None tl = tl
+serve_due more s (Some w) tl = more (ticked s w.time w.lane tl)
+
+-- wakes of the first lanes up to a limit, in order of time and lane, until none is due, and at most so many
+abbrev pub serve : ℕ → Settings → ℕ → ℕ → Timeline → Timeline
+serve zero s count limit tl = tl
+serve (suc n) s count limit tl = serve_due (serve n s count limit) s (due limit (first_wake (wake s tl) count)) tl
+
+-- wakes of the first lanes up to a limit, in order of time and lane, until none is due: there are no more than `rooms` says
+abbrev pub served : Settings → ℕ → ℕ → Timeline → Timeline
+served s count limit tl = serve (rooms limit (wake s tl) count) s count limit tl
+
+-- ---- packets
+
+-- a packet of the session as it comes at a time
+abbrev pub arrival_at : ℕ → Packet → Arrival
+arrival_at t p = record { pusher = SESSION; k = 0; stamp = t; origin = Original; packet = p }
+
+abbrev pub entry_of : Arrival → Pushed → Entry
+entry_of a reply = Push a reply.verdict reply.number reply.aside_dropped
+
+-- a packet is pushed into a lane
+abbrev pub pushed : Settings → ℕ → ℕ → Arrival → Timeline → Timeline
+pushed s t l a tl = At t l (entry_of a (reply_to_push s (lane l tl) a)) ∷ tl
+
+-- a packet comes to its lane, which takes turns then
+abbrev pub delivered : Settings → ℕ → Option Delivery → Timeline → Timeline
+delivered s t None tl = tl
+delivered s t (Some d) tl = ticked s t d.lane (pushed s t d.lane (arrival_at t d.packet) tl)
+
+-- ---- ends
+
+-- the pushers of a lane end, the session and then the script, and turns are taken after each
+abbrev pub ended : Settings → ℕ → ℕ → Timeline → Timeline
+ended s t l tl = settled s t l (At t l (Ends CONTROL) ∷ settled s t l (At t l (Ends SESSION) ∷ tl))
+
+-- the first lanes end, in order
+abbrev pub all_ended : Settings → ℕ → ℕ → Timeline → Timeline
+all_ended s t zero tl = tl
+all_ended s t (suc l) tl = ended s t l (all_ended s t l tl)

@@ -1,0 +1,59 @@
+//! Laws of the log. Each function's contract is a law, for all settings and all lists of records. The
+//! functions do nothing.
+ghost use Rattle.std.specs.Prelude.{◌≡◌, ◌<◌, ◌++◌, ◌∷◌, ℕ, List, [], true, false, Some, None, reverse};
+ghost use Rattle.jitter_model.specs.declared.Settings.{Settings};
+ghost use Rattle.jitter_model.specs.Turns.{turn, is_quiet};
+ghost use Rattle.jitter_model.specs.Runs.{Run};
+ghost use Rattle.pcap_file.specs.Capture.{Record};
+ghost use Rattle.log_model.specs.Times.{Timed, at_times, timed_after};
+ghost use Rattle.log_model.specs.declared.Source.{Source};
+ghost use Rattle.log_model.specs.Front.{source_of};
+ghost use Rattle.log_model.specs.Events.{Timeline, lane};
+ghost use Rattle.log_model.specs.Waking.{turned, settled, ticked, wake, Wake, first_wake, due, served};
+ghost use Rattle.log_model.specs.Log.{timeline, log_part, log, Begins};
+ghost use Rattle.log_model.specs.Captured.{IsReplay};
+ghost use Rattle.log_model.specs.declared.TheConstants.{END_OF_TIME as LAST};
+
+/// Without records nothing is told. What is told of some records begins what is told of them and more,
+/// and the whole log of these.
+pub fn goes_on()
+    ensures none { (s : Settings) → log_part s [] ≡ [] }
+    ensures part { (s : Settings) (rs more : List Timed) → Begins (log_part s rs) (log_part s (rs ++ more)) }
+    ensures whole { (s : Settings) (rs more : List Timed) → Begins (log_part s rs) (log s (rs ++ more)) }
+{}
+
+/// A record's time hangs on it and the records before it alone.
+pub fn times_go_on()
+    ensures none { at_times [] ≡ [] }
+    ensures next { (rs : List Record) (r : Record) → at_times (rs ++ r ∷ []) ≡ at_times rs ++ timed_after rs r ∷ [] }
+{}
+
+/// The lane's source stays that of the first packet, whatever records come after it.
+pub fn keeps_its_source()
+    ensures { (newer older : List Timed) (source : Source) → source_of older ≡ Some source → source_of (newer ++ older) ≡ Some source }
+{}
+
+/// Turns are taken until one is answered Idle or Flushing: the definition's count of them is enough.
+pub fn turns_come_to_rest()
+    ensures rest { (s : Settings) (t l : ℕ) (tl : Timeline) → is_quiet (turn s (lane l (settled s t l tl))) ≡ true }
+    ensures stop { (s : Settings) (t l : ℕ) (tl : Timeline) → is_quiet (turn s (lane l tl)) ≡ true → settled s t l tl ≡ tl }
+    ensures step { (s : Settings) (t l : ℕ) (tl : Timeline) → is_quiet (turn s (lane l tl)) ≡ false → settled s t l tl ≡ settled s t l (turned s t l tl) }
+{}
+
+/// Wakes up to a limit are served until none is due: the definition's count of them is enough.
+pub fn serves_all()
+    ensures none { (s : Settings) (count limit : ℕ) (tl : Timeline) → due limit (first_wake (wake s (served s count limit tl)) count) ≡ None }
+    ensures stop { (s : Settings) (count limit : ℕ) (tl : Timeline) → due limit (first_wake (wake s tl) count) ≡ None → served s count limit tl ≡ tl }
+    ensures step { (s : Settings) (count limit : ℕ) (tl : Timeline) (w : Wake) → due limit (first_wake (wake s tl) count) ≡ Some w → served s count limit tl ≡ served s count limit (ticked s w.time w.lane tl) }
+{}
+
+/// In a replay of captured records each lane is a run of the list machine.
+pub fn lanes_are_runs()
+    ensures { (s : Settings) (rs : List Timed) → IsReplay s rs → (l : ℕ) → Run s (lane l (timeline s (reverse rs))) }
+{}
+
+/// After the wakes that are served at the end no lane has one: every wake of a run is below that limit.
+pub fn leaves_no_wake()
+    ensures runs { (s : Settings) (count : ℕ) (tl : Timeline) → ((l : ℕ) → l < count → Run s (lane l tl)) → first_wake (wake s (served s count LAST tl)) count ≡ None }
+    ensures replay { (s : Settings) (rs : List Timed) → IsReplay s rs → (count : ℕ) → first_wake (wake s (served s count LAST (timeline s (reverse rs)))) count ≡ None }
+{}

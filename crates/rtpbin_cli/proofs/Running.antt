@@ -1,0 +1,136 @@
+-- A run by its parts: the script, and then the capture.
+use Rattle.std.proofs.Common.{◌≡◌, ℕ, ◌-◌, Bool, true, false, List, [], ◌++◌, length, take, Option, Some, None, Result, Ok, Err, IsTrue, refl, sym, ap, subst, ◌∙◌, arith, zero-le, inl, inr}
+use Rattle.std.specs.Prelude.{bytes_eq, if◌then◌else◌}
+use Rattle.std.proofs.lemmas.List.{length-append, take_at}
+use Rattle.std.proofs.lemmas.Slice.Eq.{bytes_eq-Decides}
+use Rattle.rtp_io.specs.Outside.{Disk, SameDisk, IsOpened, IsClosed, Adds, AddsFront}
+use Rattle.rtp_io.specs.Laws.{told_then, adds_none, adds_same}
+use Rattle.pcap_file.specs.Capture.{capture_of}
+use Rattle.jitter_model.specs.declared.Settings.{Settings}
+use Rattle.rtpbin_cli.specs.declared.script.ScriptFault.{ScriptFault}
+use Rattle.rtpbin_cli.specs.declared.stop.Stop.{Stop}
+use Rattle.rtpbin_cli.specs.declared.stop.Stop.TheVariants as stop
+use Rattle.rtpbin_cli.specs.Words.{Form, Replay, Dump, capture_name}
+use Rattle.rtpbin_cli.specs.Script.{script_of}
+use Rattle.rtpbin_cli.specs.Output.{Output, output_of}
+use Rattle.rtpbin_cli.specs.Commands.{output_by, replay_by, replay_output}
+use Rattle.rtpbin_cli.specs.Outcome.{AreBytes, BadScript, Written, want_from, given_from, stop_from, wanted_of, out_of, stop_of, given_of, part_from, read_out}
+use Rattle.rtpbin_cli.specs.Steps.{ReadsScript, Covers, Runs}
+use Rattle.rtpbin_cli.specs.Dump.{dump_output}
+use Rattle.rtpbin_cli.proofs.Progress.{GoesOn}
+use Rattle.rtpbin_cli.proofs.Replaying.{replay_goes_on}
+use Rattle.rtpbin_cli.proofs.Dumping.{dump_goes_on}
+use Rattle.rtpbin_cli.proofs.Scripts.{begins_no_capture, no_records}
+
+front_none : (p : List ℕ) (a : Option (List ℕ)) → AddsFront p a a
+front_none p a = (0, zero-le, adds_none a)
+
+-- ---- a failed read before the capture
+
+-- nothing goes out where what was given holds no record
+part_none : (by : Result Output ScriptFault) (given : List ℕ) → ((output : Output) → by ≡ Ok output → (output.part [] ≡ []) × ((capture_of given).records ≡ [])) → part_from by given ≡ []
+part_none (Err fault) given none = refl
+part_none (Ok output) given none = let here = none output refl in ap output.part here.1 ∙ here.0
+
+-- what a closed file gave
+given_closed : (name : List ℕ) (after : Disk) → after.opened ≡ None → given_of name after ≡ []
+given_closed name after closed = ap (λ (o : Option (List ℕ)). given_from name after o) closed
+
+-- what each command sends out goes on
+pub each_goes_on : (contents : List ℕ → List ℕ) (form : Form) (output : Output) → output_by contents form ≡ Ok output → GoesOn output
+each_goes_on contents (Dump capture) output is = let e : dump_output ≡ output = cc in subst GoesOn e dump_goes_on
+each_goes_on contents (Replay hex capture script) output is = at (script_of (contents script)) is
+  where
+    at : (read : Result Settings ScriptFault) → replay_by hex read ≡ Ok output → GoesOn output
+    at (Ok settings) e = let same : replay_output hex settings ≡ output = cc in subst GoesOn same (replay_goes_on hex settings)
+    at (Err fault) e = absurd cc
+
+read_closed : (form : Form) (after : Disk) → after.opened ≡ None → read_out (Some form) after ≡ []
+read_closed form after closed =
+    ap (part_from (output_by after.contents form)) (given_closed (capture_name form) after closed)
+    ∙ part_none (output_by after.contents form) [] (λ output is. ((each_goes_on after.contents form output is).none, no_records [] (omega arith)))
+
+-- the script is open, and perhaps it is the capture too
+script_given : (capture script : List ℕ) (settings : Settings) (after : Disk) → AreBytes (after.contents capture) → after.opened ≡ Some script → script_of (after.contents script) ≡ Ok settings → (capture_of (given_of capture after)).records ≡ []
+script_given capture script settings after bytes opened is =
+    ap (λ (o : Option (List ℕ)). (capture_of (given_from capture after o)).records) opened ∙ at (bytes_eq script capture) refl
+  where
+    at : (b : Bool) → bytes_eq script capture ≡ b → (capture_of (if b then take (length (after.contents capture) - length after.left) (after.contents capture) else [])).records ≡ []
+    at true same = begins_no_capture (after.contents capture) settings (length (after.contents capture) - length after.left) bytes (subst (λ (n : List ℕ). script_of (after.contents n) ≡ Ok settings) ((bytes_eq-Decides script capture).0 same) is)
+    at false same = no_records [] (omega arith)
+
+-- where a replay has an output, its script has settings
+settings_by : (hex : Bool) (read : Result Settings ScriptFault) (output : Output) → replay_by hex read ≡ Ok output → (settings : Settings) × (read ≡ Ok settings)
+settings_by hex (Ok settings) output is = (settings, refl)
+settings_by hex (Err fault) output is = absurd cc
+
+read_script_out : (hex : Bool) (capture script : List ℕ) (after : Disk) → AreBytes (after.contents capture) → after.opened ≡ Some script → read_out (Some (Replay hex capture script)) after ≡ []
+read_script_out hex capture script after bytes opened =
+    part_none (replay_by hex (script_of (after.contents script))) (given_of capture after)
+    (λ output is. ((each_goes_on after.contents (Replay hex capture script) output is).none, let s = settings_by hex (script_of (after.contents script)) output is in script_given capture script s.0 after bytes opened s.1))
+
+-- ---- the parts
+
+pub script_stops : (hex : Bool) (capture script : List ℕ) (why : Stop) (before after : Disk) (old : Option (List ℕ)) → SameDisk before after → AreBytes (before.contents capture) → ReadsScript (Err why) script before after → IsTrue before.told
+    → Runs (Err why) (wanted_of before.contents (Replay hex capture script)) (Some (Replay hex capture script)) after old old
+script_stops hex capture script (stop.Script fault) before after old same bytes is told =
+    let c = capture_of (before.contents capture) in
+    let w : want_from (replay_by hex (script_of (before.contents script))) c ≡ BadScript fault = ap (λ (r : Result Settings ScriptFault). want_from (replay_by hex r) c) (is told) in
+    (ap stop_of w, adds_same [] (out_of (wanted_of before.contents (Replay hex capture script))) old old (sym (ap out_of w)) (adds_none old))
+script_stops hex capture script stop.Read before after old same bytes is told = elim (is told) [
+  | inl closed ↦ adds_same [] (read_out (Some (Replay hex capture script)) after) old old (sym (read_closed (Replay hex capture script) after closed)) (adds_none old)
+  | inr opened ↦ adds_same [] (read_out (Some (Replay hex capture script)) after) old old (sym (read_script_out hex capture script after (subst (λ (f : List ℕ → List ℕ). AreBytes (f capture)) (sym same.contents) bytes) opened)) (adds_none old)
+]
+script_stops hex capture script stop.Memory before after old same bytes is told = front_none (out_of (wanted_of before.contents (Replay hex capture script))) old
+script_stops hex capture script stop.Usage before after old same bytes is told = absurd is
+script_stops hex capture script stop.Write before after old same bytes is told = absurd is
+script_stops hex capture script (stop.Capture fault) before after old same bytes is told = absurd is
+
+pub open_fails : (form : Form) (after : Disk) (old : Option (List ℕ)) → IsClosed after → Adds (read_out (Some form) after) old old
+open_fails form after old closed = adds_same [] (read_out (Some form) after) old old (sym (read_closed form after closed.opened)) (adds_none old)
+
+-- what was given of the capture
+given_is : (form : Form) (output : Output) (start after : Disk) (given : List ℕ) → start.left ≡ given ++ after.left → after.contents (capture_name form) ≡ start.left → after.opened ≡ Some (capture_name form)
+    → output_by after.contents form ≡ Ok output → read_out (Some form) after ≡ output.part (capture_of given).records
+given_is form output start after given all contents opened by =
+    let name = capture_name form in
+    let whole : after.contents name ≡ given ++ after.left = contents ∙ all in
+    let len : length (given ++ after.left) - length after.left ≡ length given = omega (arith, length-append given after.left) in
+    let cut : take (length (after.contents name) - length after.left) (after.contents name) ≡ given =
+    ap (λ (l : List ℕ). take (length l - length after.left) l) whole ∙ ap (λ (n : ℕ). take n (given ++ after.left)) len ∙ take_at given after.left (length given) refl in
+    let part : given_from name after after.opened ≡ given =
+    ap (λ (o : Option (List ℕ)). given_from name after o) opened ∙ ap (λ (b : Bool). if b then take (length (after.contents name) - length after.left) (after.contents name) else []) ((bytes_eq-Decides name name).1 refl) ∙ cut in
+    ap (λ (r : Result Output ScriptFault). part_from r (given_of name after)) by ∙ ap (λ (l : List ℕ). output.part (capture_of l).records) part
+
+-- the capture was opened, and its lines went out
+pub capture_runs : (form : Form) (output : Output) (result : Result (Unit {0}) Stop) (before start after : Disk) (old new : Option (List ℕ)) → IsTrue before.told → SameDisk before start → SameDisk start after
+    → output_by before.contents form ≡ Ok output → IsOpened (capture_name form) start → (IsTrue start.told → after.opened ≡ start.opened)
+    → Covers output result start after old new → Runs result (wanted_of before.contents form) (Some form) after old new
+capture_runs form output result before start after old new told same same' by opened kept covers = at result covers
+  where
+    here : IsTrue start.told
+    here = told_then before start same told
+
+    left : start.left ≡ before.contents (capture_name form)
+    left = opened.all ∙ ap (λ (f : List ℕ → List ℕ). f (capture_name form)) same.contents
+
+    contents : after.contents ≡ before.contents
+    contents = same'.contents ∙ same.contents
+
+    w : wanted_of before.contents form ≡ Written output (capture_of start.left)
+    w = ap (λ (r : Result Output ScriptFault). want_from r (capture_of (before.contents (capture_name form)))) by ∙ ap (λ (l : List ℕ). Written output (capture_of l)) (sym left)
+
+    front : AddsFront (output_of output (capture_of start.left)) old new → AddsFront (out_of (wanted_of before.contents form)) old new
+    front f = subst (λ (l : List ℕ). AddsFront l old new) (sym (ap out_of w)) f
+
+    at : (result : Result (Unit {0}) Stop) → Covers output result start after old new → Runs result (wanted_of before.contents form) (Some form) after old new
+    at (Ok x) h = (ap stop_of w ∙ ap stop_from (h here).0, adds_same (output_of output (capture_of start.left)) _ old new (sym (ap out_of w)) (h here).1)
+    at (Err (stop.Capture fault)) h = (ap stop_of w ∙ ap stop_from (h here).0, adds_same (output_of output (capture_of start.left)) _ old new (sym (ap out_of w)) (h here).1)
+    at (Err stop.Read) h =
+        let g = h here in
+        adds_same (output.part (capture_of g.given).records) (read_out (Some form) after) old new
+        (sym (given_is form output start after g.given g.all (ap (λ (f : List ℕ → List ℕ). f (capture_name form)) contents ∙ sym left) (kept here ∙ opened.opened) (ap (λ (f : List ℕ → List ℕ). output_by f form) contents ∙ by))) g.written
+    at (Err stop.Write) h = front (h here)
+    at (Err stop.Memory) h = front (h here)
+    at (Err stop.Usage) h = absurd h
+    at (Err (stop.Script fault)) h = absurd h

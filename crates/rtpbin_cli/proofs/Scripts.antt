@@ -1,0 +1,145 @@
+-- What is known of scripts: the front of one that is too long tells as much as the whole, and none begins a capture.
+use Rattle.std.proofs.Common.{◌≡◌, ◌≢◌, ℕ, zero, suc, ◌+◌, ◌*◌, ◌≤◌, ◌<◌, Bool, true, false, List, [], ◌∷◌, ◌++◌, length, take, drop, Option, Some, None, Result, Ok, Err, IsTrue, refl, sym, ap, subst, ◌∙◌, arith, inl, inr}
+use Rattle.std.specs.Prelude.{nat_lt, nat_eq, ◌==◌, ◌||◌, if◌then◌else◌}
+use Rattle.std.specs.List.{starts_with}
+use Rattle.std.proofs.lemmas.Bool.{lt-ltb, cases_lt}
+use Rattle.std.proofs.lemmas.Grind.{common_steps}
+use Rattle.std.proofs.lemmas.List.{append-nil, length-append, length-take-le, length-take}
+use Rattle.rtp_io.specs.Outside.{Disk}
+use Rattle.rtp_io.specs.Pulled.{FillsFrom}
+use Rattle.pcap_file.specs.declared.fault.CaptureFault.TheVariants.{CutHeader, Pcapng}
+use Rattle.pcap_file.specs.declared.order.Order.{Order}
+use Rattle.pcap_file.specs.declared.order.Order.TheVariants.{Little, Big}
+use Rattle.pcap_file.specs.Numbers.{number_at}
+use Rattle.pcap_file.specs.Capture.{capture_of, format_of, format_in, order_of, behind_header, empty}
+use Rattle.jitter_model.specs.declared.Settings.{Settings}
+use Rattle.script_lang.specs.declared.fault.ScriptCause.TheVariants.{Size}
+use Rattle.script_lang.specs.declared.fault.ScriptFault.{ScriptFault as Refusal}
+use Rattle.script_lang.specs.declared.fault.ScriptFault.TheVariants as refusal
+use Rattle.script_lang.specs.Contents.{Contents}
+use Rattle.script_lang.specs.Grammar.{read_script}
+use Rattle.script_lang.proofs.FirstLine.{no_first, no_three}
+use Rattle.rtpbin_cli.specs.declared.script.ScriptCause.TheVariants.{Language}
+use Rattle.rtpbin_cli.specs.Script.{script_of, script_from}
+use Rattle.rtpbin_cli.specs.declared.stop.Stop.{Stop}
+use Rattle.rtpbin_cli.specs.declared.stop.Stop.TheVariants as stop
+use Rattle.rtpbin_cli.specs.Outcome.{AreBytes}
+use Rattle.rtpbin_cli.specs.Steps.{HasStopCause, ReadsScript, ReadsText}
+
+script_big : (text : List ℕ) → 1048576 < length text → script_of text ≡ Err (record { line = 0; cause = Language Size })
+unfolding read_script
+script_big text big = rw (lt-ltb 1048576 (length text) big) refl
+
+pub script_front : (contents buf : List ℕ) (n : ℕ) (a b : Disk) → a.left ≡ contents → FillsFrom n buf a b → 1048576 < length buf → n ≤ length buf → script_of contents ≡ script_of (take n buf)
+script_front contents buf n a b left fills size bound =
+    elim (cases_lt n (length buf)) [
+      | inl short ↦ ap script_of (sym left ∙ fills.front ∙ ap (λ (l : List ℕ). take n buf ++ l) (fills.all short) ∙ append-nil (take n buf))
+      | inr full ↦
+          let len : length (take n buf) ≡ n = length-take-le n buf bound in
+          script_big contents (omega (arith, ap length (sym left ∙ fills.front), length-append (take n buf) b.left)) ∙ sym (script_big (take n buf) (omega arith))
+    ]
+
+pub no_records : (bytes : List ℕ) → length bytes < 24 → (capture_of bytes).records ≡ []
+unfolding capture_of
+no_records bytes short = rw (lt-ltb (length bytes) 24 short) refl
+
+-- ---- a script without a fault begins no capture
+
+contents_known : (read : Result Contents Refusal) (settings : Settings) → script_from read ≡ Ok settings → (c : Contents) × (read ≡ Ok c)
+contents_known (Ok c) settings is = (c, refl)
+contents_known (Err (refusal.Bad line cause)) settings is = absurd cc
+contents_known (Err refusal.OutOfMemory) settings is = absurd cc
+
+-- a capture's first bytes, by the four magic numbers
+pub record BeginsOtherwise (a b c : ℕ) : Type 0 where
+  pub big : a ≢ 161
+  pub little : a ≢ 212
+  pub nano : a ≡ 77 → b ≡ 60 → c ≢ 178
+
+begins_otherwise : (a b c : ℕ) (xs : List ℕ) (contents : Contents) → read_script (a ∷ b ∷ c ∷ xs) ≡ Ok contents → BeginsOtherwise a b c
+begins_otherwise a b c xs contents is = record {
+  big = λ e. no_first 161 (b ∷ c ∷ xs) contents refl refl refl refl refl (subst (λ (n : ℕ). read_script (n ∷ b ∷ c ∷ xs) ≡ Ok contents) e is);
+  little = λ e. no_first 212 (b ∷ c ∷ xs) contents refl refl refl refl refl (subst (λ (n : ℕ). read_script (n ∷ b ∷ c ∷ xs) ≡ Ok contents) e is);
+  nano = λ ea eb ec. no_three xs contents (subst (λ (n : ℕ). read_script (77 ∷ 60 ∷ n ∷ xs) ≡ Ok contents) ec
+      (subst (λ (n : ℕ). read_script (77 ∷ n ∷ c ∷ xs) ≡ Ok contents) eb (subst (λ (n : ℕ). read_script (n ∷ b ∷ c ∷ xs) ≡ Ok contents) ea is)));
+}
+
+other : (n m : ℕ) → n ≢ m → (n == m) ≡ false
+other n m h = grind (arith, common_steps)
+
+little_is : (a b c d : ℕ) (xs : List ℕ) → number_at Little 4 0 (a ∷ b ∷ c ∷ d ∷ xs) ≡ a + 256 * (b + 256 * (c + 256 * d))
+unfolding number_at
+little_is a b c d xs = omega arith
+
+big_is : (a b c d : ℕ) (xs : List ℕ) → number_at Big 4 0 (a ∷ b ∷ c ∷ d ∷ xs) ≡ a * 16777216 + (b * 65536 + (c * 256 + d))
+unfolding number_at
+big_is a b c d xs = omega arith
+
+no_order : (a b c d : ℕ) (xs : List ℕ) → a < 256 → b < 256 → c < 256 → d < 256 → BeginsOtherwise a b c → order_of (a ∷ b ∷ c ∷ d ∷ xs) ≡ None
+no_order a b c d xs la lb lc ld begins =
+    let bytes = a ∷ b ∷ c ∷ d ∷ xs in
+    let micro : (number_at Little 4 0 bytes == 0xa1b2c3d4) ≡ false = other (number_at Little 4 0 bytes) 0xa1b2c3d4 (λ e. begins.little (omega (arith, e, little_is a b c d xs))) in
+    let nano : (number_at Little 4 0 bytes == 0xa1b23c4d) ≡ false =
+    other (number_at Little 4 0 bytes) 0xa1b23c4d (λ e. begins.nano (omega (arith, e, little_is a b c d xs)) (omega (arith, e, little_is a b c d xs)) (omega (arith, e, little_is a b c d xs))) in
+    let micro' : (number_at Big 4 0 bytes == 0xa1b2c3d4) ≡ false = other (number_at Big 4 0 bytes) 0xa1b2c3d4 (λ e. begins.big (omega (arith, e, big_is a b c d xs))) in
+    let nano' : (number_at Big 4 0 bytes == 0xa1b23c4d) ≡ false = other (number_at Big 4 0 bytes) 0xa1b23c4d (λ e. begins.big (omega (arith, e, big_is a b c d xs))) in
+    of_tests _ _ _ _ micro nano micro' nano'
+  where
+    of_tests : (m n m' n' : Bool) → m ≡ false → n ≡ false → m' ≡ false → n' ≡ false → (if m || n then Some Little else if m' || n' then Some Big else None) ≡ None
+    of_tests false false false false e f g h = refl
+    of_tests true n m' n' e f g h = absurd cc
+    of_tests false true m' n' e f g h = absurd cc
+    of_tests false false true n' e f g h = absurd cc
+    of_tests false false false true e f g h = absurd cc
+
+no_capture : (a b c d : ℕ) (xs : List ℕ) → a < 256 → b < 256 → c < 256 → d < 256 → BeginsOtherwise a b c → (capture_of (a ∷ b ∷ c ∷ d ∷ xs)).records ≡ []
+unfolding capture_of format_of
+no_capture a b c d xs la lb lc ld begins = at (nat_lt (length (a ∷ b ∷ c ∷ d ∷ xs)) 24)
+  where
+    head : List ℕ
+    head = a ∷ b ∷ c ∷ d ∷ take 20 xs
+
+    by_order : (pcapng : Bool) (order : Option Order) → order ≡ None → (behind_header (if pcapng then Err Pcapng else format_in order head) (drop 20 xs)).records ≡ []
+    by_order true order is = refl
+    by_order false None is = refl
+    by_order false (Some order) is = absurd cc
+
+    at : (short : Bool) → (if short then empty (Some CutHeader) else behind_header (if starts_with nat_eq head (0x0a ∷ 0x0d ∷ 0x0d ∷ 0x0a ∷ []) then Err Pcapng else format_in (order_of head) head) (drop 20 xs)).records ≡ []
+    at true = refl
+    at false = by_order (starts_with nat_eq head (0x0a ∷ 0x0d ∷ 0x0d ∷ 0x0a ∷ [])) (order_of head) (no_order a b c d (take 20 xs) la lb lc ld begins)
+
+-- nor does a front of it
+pub begins_no_capture : (text : List ℕ) (settings : Settings) (k : ℕ) → AreBytes text → script_of text ≡ Ok settings → (capture_of (take k text)).records ≡ []
+begins_no_capture text settings k bytes is = let known = contents_known (read_script text) settings is in at text k bytes known.0 known.1
+  where
+    at : (text : List ℕ) (k : ℕ) → AreBytes text → (c : Contents) → read_script text ≡ Ok c → (capture_of (take k text)).records ≡ []
+    at (a ∷ b ∷ c ∷ d ∷ xs) (suc (suc (suc (suc k)))) bytes contents is =
+        no_capture a b c d (take k xs) (bytes 0 0 (omega arith)) (bytes 1 0 (omega arith)) (bytes 2 0 (omega arith)) (bytes 3 0 (omega arith)) (begins_otherwise a b c (d ∷ xs) contents is)
+    at text zero bytes contents is = no_records (take zero text) (omega (arith, length-take zero text))
+    at text (suc zero) bytes contents is = no_records (take 1 text) (omega (arith, length-take 1 text))
+    at text (suc (suc zero)) bytes contents is = no_records (take 2 text) (omega (arith, length-take 2 text))
+    at text (suc (suc (suc zero))) bytes contents is = no_records (take 3 text) (omega (arith, length-take 3 text))
+    at [] k bytes contents is = no_records (take k []) (omega (arith, length-take {A = ℕ} k []))
+    at (a ∷ []) k bytes contents is = no_records (take k (a ∷ [])) (omega (arith, length-take k (a ∷ [])))
+    at (a ∷ b ∷ []) k bytes contents is = no_records (take k (a ∷ b ∷ [])) (omega (arith, length-take k (a ∷ b ∷ [])))
+    at (a ∷ b ∷ c ∷ []) k bytes contents is = no_records (take k (a ∷ b ∷ c ∷ [])) (omega (arith, length-take k (a ∷ b ∷ c ∷ [])))
+
+-- ---- a script that was read
+
+pub reads_script : (r : Result Settings Stop) (name text : List ℕ) (before after : Disk) → (IsTrue before.told → script_of (before.contents name) ≡ script_of text) → ReadsText r text → ReadsScript r name before after
+reads_script (Ok settings) name text before after same reads = λ told. same told ∙ reads
+reads_script (Err (stop.Script fault)) name text before after same reads = λ told. same told ∙ reads
+reads_script (Err stop.Memory) name text before after same reads = tt
+reads_script (Err stop.Usage) name text before after same reads = absurd reads
+reads_script (Err stop.Read) name text before after same reads = absurd reads
+reads_script (Err stop.Write) name text before after same reads = absurd reads
+reads_script (Err (stop.Capture fault)) name text before after same reads = absurd reads
+
+pub reads_cause : (r : Result Settings Stop) (text : List ℕ) (f f' : ℕ) → f' ≡ f → ReadsText r text → HasStopCause r f f' 0 0
+reads_cause (Ok settings) text f f' same reads = (same, refl)
+reads_cause (Err (stop.Script fault)) text f f' same reads = (same, refl)
+reads_cause (Err stop.Memory) text f f' same reads = (same, refl)
+reads_cause (Err stop.Usage) text f f' same reads = absurd reads
+reads_cause (Err stop.Read) text f f' same reads = absurd reads
+reads_cause (Err stop.Write) text f f' same reads = absurd reads
+reads_cause (Err (stop.Capture fault)) text f f' same reads = absurd reads

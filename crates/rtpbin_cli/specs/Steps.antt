@@ -1,0 +1,98 @@
+-- What the steps of a run promise each other.
+use Rattle.std.specs.Prelude.{◌≡◌, ◌≢◌, ◌<◌, ◌⊎◌, ℕ, IsTrue, List, [], ◌++◌, Option, Some, None, Result, Ok, Err}
+use Rattle.rtp_io.specs.Outside.{Disk, Adds, AddsFront}
+use Rattle.pcap_file.specs.declared.fault.CaptureFault.{CaptureFault}
+use Rattle.pcap_file.specs.declared.fault.CaptureFault.TheVariants as faults
+use Rattle.pcap_file.specs.Capture.{capture_of}
+use Rattle.jitter_model.specs.declared.Settings.{Settings}
+use Rattle.rtpbin_cli.specs.declared.status.Status.{Status}
+use Rattle.rtpbin_cli.specs.declared.status.Status.TheVariants as status
+use Rattle.rtpbin_cli.specs.declared.stop.Stop.{Stop}
+use Rattle.rtpbin_cli.specs.declared.stop.Stop.TheVariants as stop
+use Rattle.rtpbin_cli.specs.Words.{Form}
+use Rattle.rtpbin_cli.specs.Script.{script_of}
+use Rattle.rtpbin_cli.specs.Output.{Output, output_of}
+use Rattle.rtpbin_cli.specs.Outcome.{Wanted, out_of, stop_of, status_of_stop, text_of, memory_text, read_out}
+
+-- what a fault of the capture ends a run with
+abbrev pub stop_of_fault : CaptureFault → Stop
+stop_of_fault faults.ReadFault = stop.Read
+stop_of_fault faults.OutOfMemory = stop.Memory
+stop_of_fault fault = stop.Capture fault
+
+-- how the counts of the files and of the output moved
+abbrev pub HasStopCause : {A : Type 0} → Result A Stop → ℕ → ℕ → ℕ → ℕ → Type 0
+HasStopCause (Ok x) f f' o o' = (f' ≡ f) × (o' ≡ o)
+HasStopCause (Err stop.Usage) f f' o o' = (f' ≡ f) × (o' ≡ o)
+HasStopCause (Err (stop.Script fault)) f f' o o' = (f' ≡ f) × (o' ≡ o)
+HasStopCause (Err (stop.Capture fault)) f f' o o' = (f' ≡ f) × (o' ≡ o)
+HasStopCause (Err stop.Read) f f' o o' = (f < f') × (o' ≡ o)
+HasStopCause (Err stop.Write) f f' o o' = (f' ≡ f) × (o < o')
+HasStopCause (Err stop.Memory) f f' o o' = (f' ≡ f) × (o' ≡ o)
+
+-- writing these bytes
+abbrev pub Prints : List ℕ → Result (Unit {0}) Stop → Option (List ℕ) → Option (List ℕ) → ℕ → ℕ → Type 0
+Prints bytes (Ok x) old new o o' = Adds bytes old new × (o' ≡ o)
+Prints bytes (Err stop.Write) old new o o' = AddsFront bytes old new × (o < o')
+Prints bytes (Err stop.Memory) old new o o' = AddsFront bytes old new × (o' ≡ o)
+Prints bytes (Err other) old new o o' = ⊥
+
+-- the bytes that were given, and what was written for them
+pub record WroteGiven (output : Output) (before after : Disk) (old new : Option (List ℕ)) : Type 0 where
+  pub given : List ℕ
+  pub all : before.left ≡ given ++ after.left
+  pub written : Adds (output.part (capture_of given).records) old new
+
+-- what goes out for the capture in the file that is open
+abbrev pub Covers : Output → Result (Unit {0}) Stop → Disk → Disk → Option (List ℕ) → Option (List ℕ) → Type 0
+Covers output (Ok x) before after old new = IsTrue before.told → ((capture_of before.left).fault ≡ None) × Adds (output_of output (capture_of before.left)) old new
+Covers output (Err (stop.Capture fault)) before after old new = IsTrue before.told → ((capture_of before.left).fault ≡ Some fault) × Adds (output_of output (capture_of before.left)) old new
+Covers output (Err stop.Read) before after old new = IsTrue before.told → WroteGiven output before after old new
+Covers output (Err stop.Write) before after old new = IsTrue before.told → AddsFront (output_of output (capture_of before.left)) old new
+Covers output (Err stop.Memory) before after old new = IsTrue before.told → AddsFront (output_of output (capture_of before.left)) old new
+Covers output (Err stop.Usage) before after old new = ⊥
+Covers output (Err (stop.Script fault)) before after old new = ⊥
+
+-- reading a script of these bytes
+abbrev pub ReadsText : Result Settings Stop → List ℕ → Type 0
+ReadsText (Ok settings) text = script_of text ≡ Ok settings
+ReadsText (Err (stop.Script fault)) text = script_of text ≡ Err fault
+ReadsText (Err stop.Memory) text = Unit {0}
+ReadsText (Err other) text = ⊥
+
+-- reading the script of this name
+abbrev pub ReadsScript : Result Settings Stop → List ℕ → Disk → Disk → Type 0
+ReadsScript (Ok settings) name before after = IsTrue before.told → script_of (before.contents name) ≡ Ok settings
+ReadsScript (Err (stop.Script fault)) name before after = IsTrue before.told → script_of (before.contents name) ≡ Err fault
+ReadsScript (Err stop.Read) name before after = IsTrue before.told → (after.opened ≡ None) ⊎ (after.opened ≡ Some name)
+ReadsScript (Err stop.Memory) name before after = Unit {0}
+ReadsScript (Err stop.Usage) name before after = ⊥
+ReadsScript (Err stop.Write) name before after = ⊥
+ReadsScript (Err (stop.Capture fault)) name before after = ⊥
+
+-- a run up to the text of its end, where the input is known
+abbrev pub Runs : Result (Unit {0}) Stop → Wanted → Option Form → Disk → Option (List ℕ) → Option (List ℕ) → Type 0
+Runs (Err stop.Read) want form after old new = Adds (read_out form after) old new
+Runs (Err stop.Write) want form after old new = AddsFront (out_of want) old new
+Runs (Err stop.Memory) want form after old new = AddsFront (out_of want) old new
+Runs (Err why) want form after old new = (stop_of want ≡ Some why) × Adds (out_of want) old new
+Runs (Ok x) want form after old new = (stop_of want ≡ None) × Adds (out_of want) old new
+
+-- what is done for words of a form never stops with Usage
+abbrev pub IsOfForm : {A : Type 0} → Result A Stop → Type 0
+IsOfForm (Err stop.Usage) = ⊥
+IsOfForm result = Unit {0}
+
+-- a run stops with Usage exactly where the words have no form
+abbrev pub IsUsage : Result (Unit {0}) Stop → Option Form → Type 0
+IsUsage (Err stop.Usage) form = form ≡ None
+IsUsage result form = form ≢ None
+
+-- writing a text for a status
+abbrev pub Told : Status → Status → List ℕ → Option (List ℕ) → Option (List ℕ) → ℕ → ℕ → Type 0
+Told result wish text old new e e' = ((result ≡ wish) × Adds text old new × (e' ≡ e)) ⊎ ((result ≡ status.Write) × AddsFront text old new × (e < e'))
+
+-- reporting why a run stopped
+abbrev pub Reports : Status → Stop → Option (List ℕ) → Option (List ℕ) → ℕ → ℕ → Type 0
+Reports result stop.Write old new e e' = (result ≡ status.Write) × Adds [] old new × (e' ≡ e)
+Reports result why old new e e' = Told result (status_of_stop why) (text_of why) old new e e' ⊎ Told result status.Memory memory_text old new e e'
