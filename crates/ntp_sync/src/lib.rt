@@ -1,0 +1,11 @@
+//! Synchronisation of lanes that share a CNAME (RFC 3550, section 6.5.1): how far each lane's clock is
+//! behind the one that is furthest ahead.
+#![tactic(auto)]
+
+mod offsets;
+mod sync;
+
+pub use sync::{LaneReport, LaneSync};
+
+#[cfg(test)]
+mod tests;

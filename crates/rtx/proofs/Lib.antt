@@ -1,0 +1,4 @@
+pub mod Seen
+pub mod Remembering
+pub mod Found
+pub mod Inverse
