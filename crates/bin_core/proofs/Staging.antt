@@ -5,6 +5,7 @@ use Rattle.std.proofs.lemmas.List.{append-nil}
 use Rattle.jitter_model.specs.declared.Settings.{Settings}
 use Rattle.timeline.specs.declared.line.BinLine.{BinLine}
 use Rattle.timeline.specs.declared.line.BinLine.TheVariants as told
+use Rattle.log_model.specs.declared.Profile.{Profile}
 use Rattle.log_model.specs.declared.Source.{Source}
 use Rattle.log_model.specs.declared.TheConstants.{END_OF_TIME}
 use Rattle.log_model.specs.Times.{Timed}
@@ -36,15 +37,15 @@ served_lane s base o old new kept limit before last told more tl e same serves h
     (record { tells = record { source_is = one.source_is ∙ ap (λ (x : Source). Some x) (sym same); rests = after.rests }; last_is = after.last_is })
 
 pub ended_lane :
-    (s : Settings) (base : Base) (o : Option Lane) (old new : Lane) (kept : Option Source) (t : ℕ) (told more : List BinLine) (tl : Timeline)
+    (s : Settings) (base : Base) (o : Option Lane) (old new : Lane) (kept : Option Source) (session t : ℕ) (told more : List BinLine) (tl : Timeline)
     → o ≡ Some old
     → new.source ≡ old.source
-    → (LaneTells s base 0 old told tl → LaneRests s base 0 new more (ended s t 0 tl))
+    → (LaneTells s base 0 old told tl → LaneRests s base 0 new more (ended s session t 0 tl))
     → LanesTell s base o kept told tl
-    → TellsLane s base new kept more (all_ended s t (lanes_of kept) tl)
-ended_lane s base o old new kept t told more tl e same ends h =
+    → TellsLane s base new kept more (all_ended s session t (lanes_of kept) tl)
+ended_lane s base o old new kept session t told more tl e same ends h =
     let one : TellsLane s base old kept told tl = subst (λ (x : Option Lane). LanesTell s base x kept told tl) e h in
-    subst (λ (n : ℕ). TellsLane s base new kept more (all_ended s t n tl)) (sym (ap lanes_of one.source_is))
+    subst (λ (n : ℕ). TellsLane s base new kept more (all_ended s session t n tl)) (sym (ap lanes_of one.source_is))
     (record { source_is = one.source_is ∙ ap (λ (x : Source). Some x) (sym same); rests = ends one.rests.tells })
 
 -- ---- a line of the front
@@ -133,22 +134,22 @@ done_is s base (Some l) source records told tl h =
     done_same records 1 l.counts.out l.counts.lost l.counts.refused (lanes_of source) (sum_by out_in (lines tl)) (sum_by lost_in (lines tl)) (sum_by refused_in (lines tl)) (sym (ap lanes_of h.source_is)) k.out k.lost k.refused
 
 pub finished :
-    (s : Settings) (rs : List Timed) (stage : Stage) (o : Option Lane) (last : ℕ) (told between after : List BinLine) (x : BinLine)
+    (s : Profile) (rs : List Timed) (stage : Stage) (o : Option Lane) (last : ℕ) (told between after : List BinLine) (x : BinLine)
     → StandsFor s stage rs
-    → last ≡ latest (served s (lanes_of (source_of rs)) END_OF_TIME (timeline s rs))
-    → LanesTell s (record { before = told; log = lines (timeline s rs) }) o (source_of rs) between (all_ended s last (lanes_of (source_of rs)) (served s (lanes_of (source_of rs)) END_OF_TIME (timeline s rs)))
+    → last ≡ latest (served s.settings (lanes_of (source_of s rs)) END_OF_TIME (timeline s rs))
+    → LanesTell s.settings (record { before = told; log = lines (timeline s rs) }) o (source_of s rs) between (all_ended s.settings s.session last (lanes_of (source_of s rs)) (served s.settings (lanes_of (source_of s rs)) END_OF_TIME (timeline s rs)))
     → x ≡ done_of o stage.records
     → after ≡ between ++ x ∷ []
     → StageEnds s rs told after
 finished s rs stage o last told between after x st late h x_is e =
     let base : Base = record { before = told; log = lines (timeline s rs) } in
-    let h' : LanesTell s base o (source_of rs) between (whole_timeline s rs) =
-    subst (λ (t : ℕ). LanesTell s base o (source_of rs) between (all_ended s t (lanes_of (source_of rs)) (served s (lanes_of (source_of rs)) END_OF_TIME (timeline s rs)))) late h in
-    let a : Adds base between (lines (whole_timeline s rs)) = adds_of s base o (source_of rs) between (whole_timeline s rs) h' in
-    let done : x ≡ done_line (length rs) (lane_count rs) (lines (whole_timeline s rs)) =
-    x_is ∙ ap (done_of o) st.records ∙ done_is s base o (source_of rs) (length rs) between (whole_timeline s rs) h' in
+    let h' : LanesTell s.settings base o (source_of s rs) between (whole_timeline s rs) =
+    subst (λ (t : ℕ). LanesTell s.settings base o (source_of s rs) between (all_ended s.settings s.session t (lanes_of (source_of s rs)) (served s.settings (lanes_of (source_of s rs)) END_OF_TIME (timeline s rs)))) late h in
+    let a : Adds base between (lines (whole_timeline s rs)) = adds_of s.settings base o (source_of s rs) between (whole_timeline s rs) h' in
+    let done : x ≡ done_line (length rs) (lane_count s rs) (lines (whole_timeline s rs)) =
+    x_is ∙ ap (done_of o) st.records ∙ done_is s.settings base o (source_of s rs) (length rs) between (whole_timeline s rs) h' in
     record {
       told = a.more;
-      added = e ∙ ap (λ (y : BinLine). between ++ y ∷ []) done ∙ ap (λ (xs : List BinLine). xs ++ done_line (length rs) (lane_count rs) (lines (whole_timeline s rs)) ∷ []) a.told_is;
+      added = e ∙ ap (λ (y : BinLine). between ++ y ∷ []) done ∙ ap (λ (xs : List BinLine). xs ++ done_line (length rs) (lane_count s rs) (lines (whole_timeline s rs)) ∷ []) a.told_is;
       line = a.all_is;
     }

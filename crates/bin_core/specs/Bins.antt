@@ -4,6 +4,7 @@ use Rattle.jitter_model.specs.declared.Settings.{Settings}
 use Rattle.pcap_file.specs.declared.record.PcapRecord.{PcapRecord}
 use Rattle.pcap_file.specs.Reading.{record_view}
 use Rattle.timeline.specs.declared.line.BinLine.{BinLine}
+use Rattle.log_model.specs.declared.Profile.{Profile}
 use Rattle.log_model.specs.declared.Source.{Source}
 use Rattle.log_model.specs.Times.{Timed}
 use Rattle.log_model.specs.Front.{source_of}
@@ -34,14 +35,14 @@ LanesStand s None source tl = HasNoLane source tl
 LanesStand s (Some l) source tl = HasLane s l source tl
 
 -- a bin's fields stand for these records, the newest of which is the first
-pub record StandsFor (s : Settings) (stage : Stage) (rs : List Timed) : Type 0 where
-  pub settings : stage.settings ≡ s
+pub record StandsFor (s : Profile) (stage : Stage) (rs : List Timed) : Type 0 where
+  pub profile : stage.profile ≡ s
   pub records : stage.records ≡ length rs
   pub time : stage.time ≡ latest (timeline s rs)
-  pub lanes : LanesStand s stage.lane (source_of rs) (timeline s rs)
+  pub lanes : LanesStand s.settings stage.lane (source_of s rs) (timeline s rs)
 
--- a bin with these settings stands for the records that it has taken, the first of which is the first
-unfoldable pub BinStands : Settings → Bin → List Timed → Type 0
+-- a bin of this profile stands for the records that it has taken, the first of which is the first
+unfoldable pub BinStands : Profile → Bin → List Timed → Type 0
 BinStands s bin seen = StandsFor s bin.stage (reverse seen)
 
 -- a record of a capture with this link type, at its time
@@ -49,14 +50,14 @@ abbrev pub timed : ℕ → ℕ → PcapRecord → Timed
 timed time link r = record { time = time; captured = record_view link r }
 
 -- a record was taken: these lines were added, which the log has next, and the bin stands for one record more
-pub record TakesOn (s : Settings) (seen : List Timed) (r : Timed) (before after : List BinLine) (bin : Bin) : Type 0 where
+pub record TakesOn (s : Profile) (seen : List Timed) (r : Timed) (before after : List BinLine) (bin : Bin) : Type 0 where
   pub told : List BinLine
   pub added : after ≡ before ++ told
   pub line : log_part s (seen ++ r ∷ []) ≡ log_part s seen ++ told
   pub stands : BinStands s bin (seen ++ r ∷ [])
 
 -- the end came: these lines were added, which complete the log
-pub record Completes (s : Settings) (seen : List Timed) (before after : List BinLine) : Type 0 where
+pub record Completes (s : Profile) (seen : List Timed) (before after : List BinLine) : Type 0 where
   pub told : List BinLine
   pub added : after ≡ before ++ told
   pub line : log s seen ≡ log_part s seen ++ told

@@ -1,8 +1,7 @@
 -- The settings and pushers of a lane, and how many packets came to it.
-use Rattle.std.specs.Prelude.{◌≡◌, ℕ, ◌+◌, ◌-◌, Option, None, Some, nat_le, if◌then◌else◌}
-use Rattle.jitter_model.specs.declared.Settings.{Settings}
-use Rattle.jitter_model.specs.Runs.{IsValid}
+use Rattle.std.specs.Prelude.{ℕ, ◌+◌, ◌-◌, Option, None, Some, nat_le, if◌then◌else◌}
 use Rattle.jitter_core.specs.Words.{pushes_of, settings_of}
+use Rattle.log_model.specs.Captured.{pushers_of}
 use Rattle.bin_core.specs.declared.counted.Lane.{Lane}
 
 abbrev pub pushes_in : Option Lane → ℕ
@@ -19,12 +18,7 @@ abbrev pub due_time : ℕ → Option ℕ → Option ℕ
 due_time limit None = None
 due_time limit (Some time) = if nat_le time limit then Some time else None
 
--- settings of a lane with session 0 and the control as its pushers
-pub record IsOneSession (s : Settings) : Type 0 where
-  pub valid : IsValid s
-  pub pushers : s.pushers ≡ 257
-
--- the set of a lane's pushers: bits 0 and 8
-abbrev pub pushers_in : Option Lane → ℕ
-pushers_in None = 257
-pushers_in (Some lane) = (settings_of lane.buffer).pushers
+-- the set of a lane's pushers: the session's, where there is no lane yet
+abbrev pub pushers_in : ℕ → Option Lane → ℕ
+pushers_in session None = pushers_of session
+pushers_in session (Some lane) = (settings_of lane.buffer).pushers

@@ -3,6 +3,7 @@ use Rattle.std.specs.Prelude.{ℕ, ◌≡◌, ◌++◌, Bool, true, List, [], �
 use Rattle.jitter_model.specs.declared.Settings.{Settings}
 use Rattle.jitter_model.specs.declared.Packet.{Packet}
 use Rattle.timeline.specs.declared.line.BinLine.{BinLine}
+use Rattle.log_model.specs.declared.Profile.{Profile}
 use Rattle.log_model.specs.declared.Source.{Source}
 use Rattle.timeline.specs.declared.line.BinLine.TheVariants as told
 use Rattle.log_model.specs.Times.{Timed}
@@ -48,18 +49,18 @@ done_of None records = told.Done records 0 0 0 0
 done_of (Some l) records = told.Done records 1 l.counts.out l.counts.lost l.counts.refused
 
 -- a record was taken after these ones, the newest of which is the first
-pub record StageTakes (s : Settings) (older : List Timed) (r : Timed) (before after : List BinLine) (stage : Stage) : Type 0 where
+pub record StageTakes (s : Profile) (older : List Timed) (r : Timed) (before after : List BinLine) (stage : Stage) : Type 0 where
   pub told : List BinLine
   pub added : after ≡ before ++ told
   pub line : lines (timeline s (r ∷ older)) ≡ lines (timeline s older) ++ told
   pub stands : StandsFor s stage (r ∷ older)
 
 -- the end came after these records
-pub record StageEnds (s : Settings) (rs : List Timed) (before after : List BinLine) : Type 0 where
+pub record StageEnds (s : Profile) (rs : List Timed) (before after : List BinLine) : Type 0 where
   pub told : List BinLine
-  pub added : after ≡ before ++ told ++ done_line (length rs) (lane_count rs) (lines (whole_timeline s rs)) ∷ []
+  pub added : after ≡ before ++ told ++ done_line (length rs) (lane_count s rs) (lines (whole_timeline s rs)) ∷ []
   pub line : lines (whole_timeline s rs) ≡ lines (timeline s rs) ++ told
 
 -- what a packet of the lane's source brings: the lines that make the lane, where it is the first, and the packet for lane 0
-abbrev pub given : Settings → ℕ → Option Source → Source → Packet → Brought
+abbrev pub given : Profile → ℕ → Option Source → Source → Packet → Brought
 given s t kept source p = record { lines = opening s t kept source; delivery = Some (record { lane = 0; packet = p }) }

@@ -1,11 +1,12 @@
 //! The bin: records in order of time, and wakes between them.
 ghost use Rattle.std.specs.Prelude.{◌≡◌, ◌<◌, ◌≤◌, ◌+◌, ◌^◌, List, [], OnOk};
-ghost use Rattle.jitter_model.specs.declared.Settings.{Settings as SettingsOf};
+ghost use Rattle.log_model.specs.declared.Profile.{Profile as ProfileOf};
+ghost use Rattle.log_model.specs.Captured.{IsProfile, pushers_of};
 ghost use Rattle.log_model.specs.Times.{Timed};
-ghost use Rattle.bin_core.specs.Stages.{IsOneSession, pushers_in, pushes_in};
+ghost use Rattle.bin_core.specs.Stages.{pushers_in, pushes_in};
 
 use crate::stage::{Stage, finish, take_record};
-use jitter_core::Settings;
+use log_model::Profile;
 use pcap_file::PcapRecord;
 use rtp_units::OutOfMemory;
 use std::alloc::Global;
@@ -22,8 +23,8 @@ pub const MAX_RECORDS: u64 = 100_000_000;
 #[derive(Drop)]
 pub struct Bin {
     stage: Stage,
-    ghost settings: { IsOneSession stage.settings },
-    ghost pushers: { pushers_in stage.lane ≡ 257 },
+    ghost profile: { IsProfile stage.profile },
+    ghost pushers: { pushers_in stage.profile.session stage.lane ≡ pushers_of stage.profile.session },
     ghost room: { pushes_in stage.lane ≤ stage.records },
 }
 
@@ -32,15 +33,15 @@ impl Bin {
     ghost use Rattle.bin_core.specs.Bins.{BinStands, TakesOn, Completes, timed};
 
     /// A bin before any record.
-    pub fn new(settings: &Settings) -> Bin
-        requires { IsOneSession settings.now }
+    pub fn new(profile: &Profile) -> Bin
+        requires { IsProfile profile.now }
         ensures records { records_of result ≡ 0 }
         ensures time { time_of result ≡ 0 }
-        ensures stands { BinStands settings.now result [] }
+        ensures stands { BinStands profile.now result [] }
     {
         Bin {
             stage: Stage {
-                settings: *settings,
+                profile: *profile,
                 lane: None,
                 records: 0,
                 time: 0,
@@ -79,14 +80,14 @@ impl Bin {
         requires small { time < 2 ^ 63 }
         ensures records { records_of self.new ≡ n }
         ensures time { time_of self.new ≡ time }
-        ensures stands { OnOk result ((s : SettingsOf) (seen : List Timed) → BinStands s self.old seen → TakesOn s seen (timed time link rec.now) lines.old lines.new self.new) }
+        ensures stands { OnOk result ((s : ProfileOf) (seen : List Timed) → BinStands s self.old seen → TakesOn s seen (timed time link rec.now) lines.old lines.new self.new) }
     {
         take_record(&mut self.stage, alloc, n, time, link, rec, lines)
     }
 
     /// Serves the wakes that are left, ends the lane and adds the last line.
     pub fn finish(&mut self, lines: &mut Lines) -> Result<(), OutOfMemory>
-        ensures { OnOk result ((s : SettingsOf) (seen : List Timed) → BinStands s self.old seen → Completes s seen lines.old lines.new) }
+        ensures { OnOk result ((s : ProfileOf) (seen : List Timed) → BinStands s self.old seen → Completes s seen lines.old lines.new) }
     {
         finish(&mut self.stage, lines)
     }

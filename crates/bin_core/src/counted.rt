@@ -5,6 +5,7 @@ ghost use Rattle.jitter_model.specs.History.{History};
 ghost use Rattle.jitter_model.specs.Turns.{turn as reply_to_turn, is_quiet, wake_of};
 ghost use Rattle.jitter_model.specs.Verdicts.{pushed as reply_to_push};
 ghost use Rattle.jitter_model.specs.Laws.{IsLater};
+ghost use Rattle.log_model.specs.Captured.{pushers_of};
 ghost use Rattle.jitter_core.specs.Words.{Stands, left_of, now_of, pushes_of, settings_of};
 ghost use Rattle.bin_core.specs.Totals.{turn_out, turn_lost, refusal, with_turn, with_push, IsCounted};
 
@@ -94,8 +95,8 @@ fn count_push(counts: Counts, verdict: Verdict) -> Counts
 
 /// Pushes a packet of the session.
 pub fn push_arrival(lane: &mut Lane, arrival: Arrival) -> Pushed
-    requires pusher { arrival.pusher ≡ 0 }
-    requires pushers { (settings_of lane.old.buffer).pushers ≡ 257 }
+    requires session { arrival.pusher < 8 }
+    requires pushers { (settings_of lane.old.buffer).pushers ≡ pushers_of arrival.pusher }
     requires stamp { arrival.stamp < 2 ^ 63 }
     requires few { pushes_of lane.old.buffer < 2 ^ 31 }
     ensures number { lane.new.number ≡ lane.old.number }

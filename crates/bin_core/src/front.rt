@@ -5,7 +5,7 @@ ghost use Rattle.pcap_file.specs.Reading.{record_view};
 ghost use Rattle.log_model.specs.Front.{heard_of, heard_datagram, heard_packet, is_same};
 
 use jitter_core::Packet;
-use log_model::{Heard, OWN_SSRC, PAYLOAD_TYPE, RTCP_PORT, RTP_PORT, Source};
+use log_model::{Heard, Profile, Source};
 use pcap_file::{Datagram, PcapRecord, datagram};
 use rtp_units::{Address, Blob, OutOfMemory};
 use rtp_wire::{RtpView, read};
@@ -13,35 +13,52 @@ use std::alloc::Global;
 use timeline::{Word, rtp_word, skip_word};
 
 /// What this record brings.
-pub fn hear(alloc: Global, link: u16, rec: &PcapRecord) -> Result<Heard, OutOfMemory>
-    ensures { IfOk result (λ heard. heard ≡ heard_of (record_view link rec.now)) }
+pub fn hear(
+    profile: &Profile,
+    alloc: Global,
+    link: u16,
+    rec: &PcapRecord,
+) -> Result<Heard, OutOfMemory>
+    ensures { IfOk result (λ heard. heard ≡ heard_of profile.now (record_view link rec.now)) }
 {
     match datagram(link, rec) {
-        Ok(datagram) => hear_datagram(alloc, &datagram),
+        Ok(datagram) => hear_datagram(profile, alloc, &datagram),
         Err(skip) => Ok(Heard::Skip(skip_word(skip))),
     }
 }
 
-fn hear_datagram(alloc: Global, datagram: &Datagram<'_>) -> Result<Heard, OutOfMemory>
+fn hear_datagram(
+    profile: &Profile,
+    alloc: Global,
+    datagram: &Datagram<'_>,
+) -> Result<Heard, OutOfMemory>
     requires { length datagram.now.payload.now ≤ 9216 }
-    ensures { IfOk result (λ heard. heard ≡ heard_datagram (sent (Ok datagram.now))) }
+    ensures { IfOk result (λ heard. heard ≡ heard_datagram profile.now (sent (Ok datagram.now))) }
 {
-    match datagram.to.port {
-        RTP_PORT => match read(datagram.payload) {
-            Ok(view) => hear_packet(alloc, datagram.from, &view),
+    let port = datagram.to.port;
+    if port == profile.rtp_port {
+        match read(datagram.payload) {
+            Ok(view) => hear_packet(profile, alloc, datagram.from, &view),
             Err(fault) => Ok(Heard::Bad(rtp_word(fault))),
-        },
-        RTCP_PORT => Ok(Heard::Skip(Word::Unbuilt)),
-        _ => Ok(Heard::Skip(Word::Port)),
+        }
+    } else if port == profile.rtcp_port {
+        Ok(Heard::Skip(Word::Unbuilt))
+    } else {
+        Ok(Heard::Skip(Word::Port))
     }
 }
 
-fn hear_packet(alloc: Global, from: Address, view: &RtpView<'_>) -> Result<Heard, OutOfMemory>
+fn hear_packet(
+    profile: &Profile,
+    alloc: Global,
+    from: Address,
+    view: &RtpView<'_>,
+) -> Result<Heard, OutOfMemory>
     requires { length view.now.payload ≤ 9216 }
-    ensures { IfOk result (λ heard. heard ≡ heard_packet from view.now) }
+    ensures { IfOk result (λ heard. heard ≡ heard_packet profile.now from view.now) }
 {
     let ssrc = view.ssrc();
-    if view.pt() != PAYLOAD_TYPE || ssrc == OWN_SSRC {
+    if view.pt() != profile.payload_type || ssrc == profile.own_ssrc {
         return Ok(Heard::Skip(Word::Unbuilt));
     }
     let packet = Packet {

@@ -3,6 +3,7 @@ ghost use Rattle.std.specs.Prelude.{◌≡◌, ◌<◌, ◌≤◌, ◌^◌, ◌+
 ghost use Rattle.jitter_model.specs.declared.Settings.{Settings};
 ghost use Rattle.jitter_model.specs.Laws.{IsLater};
 ghost use Rattle.jitter_core.specs.Words.{now_of, pushes_of, settings_of};
+ghost use Rattle.log_model.specs.Captured.{pushers_of};
 ghost use Rattle.log_model.specs.Events.{Timeline, latest};
 ghost use Rattle.log_model.specs.Waking.{settled, ticked, served, delivered, ended};
 ghost use Rattle.bin_core.specs.Stages.{due_time};
@@ -11,30 +12,32 @@ ghost use Rattle.bin_core.specs.Lanes.{Base, LaneTells, LaneRests, LaneServed};
 use crate::counted::{Lane, push_arrival, take_turn};
 use crate::replies::{reply_line, tell_dropped, tell_verdict};
 use jitter_core::{Arrival, Origin, Packet, Turn};
-use log_model::{CONTROL, SESSION};
+use log_model::CONTROL;
 use rtp_units::OutOfMemory;
 use timeline::Lines;
 
-/// A packet comes to the lane, and the lane takes its turns.
+/// A packet of the lane's session comes to the lane, and the lane takes its turns.
 pub fn take(
     lane: &mut Lane,
+    session: u8,
     time: u64,
     packet: Packet,
     lines: &mut Lines,
 ) -> Result<(), OutOfMemory>
+    requires session { session < 8 }
     requires time { time < 2 ^ 63 }
-    requires pushers { (settings_of lane.old.buffer).pushers ≡ 257 }
+    requires pushers { (settings_of lane.old.buffer).pushers ≡ pushers_of session }
     requires few { pushes_of lane.old.buffer < 2 ^ 31 }
     ensures source { lane.new.source ≡ lane.old.source }
     ensures settings { settings_of lane.new.buffer ≡ settings_of lane.old.buffer }
     ensures count { pushes_of lane.new.buffer ≤ pushes_of lane.old.buffer + 1 }
-    ensures stands { OnOk result ((s : Settings) (base : Base) (n : ℕ) (tl : Timeline) → LaneTells s base n lane.old lines.old tl → LaneRests s base n lane.new lines.new (delivered s time (Some (record { lane = n; packet = packet })) tl)) }
+    ensures stands { OnOk result ((s : Settings) (base : Base) (n : ℕ) (tl : Timeline) → LaneTells s base n lane.old lines.old tl → LaneRests s base n lane.new lines.new (delivered s session time (Some (record { lane = n; packet = packet })) tl)) }
 {
     let seq = packet.seq;
     let answer = push_arrival(
         lane,
         Arrival {
-            pusher: SESSION,
+            pusher: session,
             k: 0,
             stamp: time,
             origin: Origin::Original,
@@ -119,15 +122,16 @@ pub fn serve(
     }
 }
 
-/// Ends both pushers, each followed by turns.
-pub fn end(lane: &mut Lane, time: u64, lines: &mut Lines) -> Result<(), OutOfMemory>
-    requires pushers { (settings_of lane.old.buffer).pushers ≡ 257 }
+/// Ends both pushers, the session and the script, each followed by turns.
+pub fn end(lane: &mut Lane, session: u8, time: u64, lines: &mut Lines) -> Result<(), OutOfMemory>
+    requires session { session < 8 }
+    requires pushers { (settings_of lane.old.buffer).pushers ≡ pushers_of session }
     ensures source { lane.new.source ≡ lane.old.source }
     ensures settings { settings_of lane.new.buffer ≡ settings_of lane.old.buffer }
     ensures count { pushes_of lane.new.buffer ≡ pushes_of lane.old.buffer }
-    ensures stands { OnOk result ((s : Settings) (base : Base) (n : ℕ) (tl : Timeline) → LaneTells s base n lane.old lines.old tl → LaneRests s base n lane.new lines.new (ended s time n tl)) }
+    ensures stands { OnOk result ((s : Settings) (base : Base) (n : ℕ) (tl : Timeline) → LaneTells s base n lane.old lines.old tl → LaneRests s base n lane.new lines.new (ended s session time n tl)) }
 {
-    lane.buffer.end(SESSION);
+    lane.buffer.end(session);
     settle(lane, time, lines)?;
     lane.buffer.end(CONTROL);
     settle(lane, time, lines)

@@ -7,7 +7,8 @@ use Rattle.jitter_model.specs.declared.Entry.{Entry}
 use Rattle.jitter_model.specs.declared.Entry.TheVariants.{Clock, Ends, Turned}
 use Rattle.jitter_model.specs.Turns.{turn, is_quiet, left}
 use Rattle.timeline.specs.declared.line.BinLine.{BinLine}
-use Rattle.log_model.specs.declared.TheConstants.{SESSION, CONTROL, END_OF_TIME}
+use Rattle.log_model.specs.declared.TheConstants.{CONTROL, END_OF_TIME}
+use Rattle.log_model.specs.declared.Profile.{Profile}
 use Rattle.log_model.specs.Times.{Timed}
 use Rattle.log_model.specs.Front.{Delivery, Brought, brings, lane_count}
 use Rattle.log_model.specs.Events.{Timeline, Event, Told, At, lane, lines, event_lines, done_line}
@@ -59,44 +60,44 @@ told_grows : (t : ℕ) (xs : List BinLine) (tl : Timeline) → Grows tl (all_tol
 told_grows t [] tl = grows_same tl
 told_grows t (x ∷ xs) tl = grows_then tl (Told t x ∷ tl) _ (grows_one (Told t x) tl) (told_grows t xs (Told t x ∷ tl))
 
-delivered_grows : (s : Settings) (t : ℕ) (o : Option Delivery) (tl : Timeline) → Grows tl (delivered s t o tl)
-delivered_grows s t None tl = grows_same tl
-delivered_grows s t (Some d) tl =
-    grows_then tl (pushed s t d.lane (arrival_at t d.packet) tl) _ (grows_one _ tl) (ticked_grows s t d.lane (pushed s t d.lane (arrival_at t d.packet) tl))
+delivered_grows : (s : Settings) (session t : ℕ) (o : Option Delivery) (tl : Timeline) → Grows tl (delivered s session t o tl)
+delivered_grows s session t None tl = grows_same tl
+delivered_grows s session t (Some d) tl =
+    grows_then tl (pushed s t d.lane (arrival_at session t d.packet) tl) _ (grows_one _ tl) (ticked_grows s t d.lane (pushed s t d.lane (arrival_at session t d.packet) tl))
 
-brought_grows : (s : Settings) (t : ℕ) (b : Brought) (tl : Timeline) → Grows tl (with_brought s t b tl)
-brought_grows s t b tl = grows_then tl (all_told t b.lines tl) _ (told_grows t b.lines tl) (delivered_grows s t b.delivery (all_told t b.lines tl))
+brought_grows : (s : Profile) (t : ℕ) (b : Brought) (tl : Timeline) → Grows tl (with_brought s t b tl)
+brought_grows s t b tl = grows_then tl (all_told t b.lines tl) _ (told_grows t b.lines tl) (delivered_grows s.settings s.session t b.delivery (all_told t b.lines tl))
 
-record_grows : (s : Settings) (older : List Timed) (r : Timed) (tl : Timeline) → Grows tl (with_record s older r tl)
+record_grows : (s : Profile) (older : List Timed) (r : Timed) (tl : Timeline) → Grows tl (with_record s older r tl)
 record_grows s older r tl =
-    grows_then tl (served s (lane_count older) r.time tl) _ (served_grows s (lane_count older) r.time tl) (brought_grows s r.time (brings s older r) (served s (lane_count older) r.time tl))
+    grows_then tl (served s.settings (lane_count s older) r.time tl) _ (served_grows s.settings (lane_count s older) r.time tl) (brought_grows s r.time (brings s older r) (served s.settings (lane_count s older) r.time tl))
 
-timeline_grows : (s : Settings) (newer older : List Timed) → Grows (timeline s older) (timeline s (newer ++ older))
+timeline_grows : (s : Profile) (newer older : List Timed) → Grows (timeline s older) (timeline s (newer ++ older))
 timeline_grows s [] older = grows_same (timeline s older)
 timeline_grows s (r ∷ newer) older =
     grows_then (timeline s older) (timeline s (newer ++ older)) _ (timeline_grows s newer older) (record_grows s (newer ++ older) r (timeline s (newer ++ older)))
 
-ended_grows : (s : Settings) (t l : ℕ) (tl : Timeline) → Grows tl (ended s t l tl)
-ended_grows s t l tl =
-    grows_then tl (settled s t l (At t l (Ends SESSION) ∷ tl)) _ (entered_grows s t l (Ends SESSION) tl) (entered_grows s t l (Ends CONTROL) (settled s t l (At t l (Ends SESSION) ∷ tl)))
+ended_grows : (s : Settings) (session t l : ℕ) (tl : Timeline) → Grows tl (ended s session t l tl)
+ended_grows s session t l tl =
+    grows_then tl (settled s t l (At t l (Ends session) ∷ tl)) _ (entered_grows s t l (Ends session) tl) (entered_grows s t l (Ends CONTROL) (settled s t l (At t l (Ends session) ∷ tl)))
 
-all_ended_grows : (s : Settings) (t count : ℕ) (tl : Timeline) → Grows tl (all_ended s t count tl)
-all_ended_grows s t zero tl = grows_same tl
-all_ended_grows s t (suc l) tl = grows_then tl (all_ended s t l tl) _ (all_ended_grows s t l tl) (ended_grows s t l (all_ended s t l tl))
+all_ended_grows : (s : Settings) (session t count : ℕ) (tl : Timeline) → Grows tl (all_ended s session t count tl)
+all_ended_grows s session t zero tl = grows_same tl
+all_ended_grows s session t (suc l) tl = grows_then tl (all_ended s session t l tl) _ (all_ended_grows s session t l tl) (ended_grows s session t l (all_ended s session t l tl))
 
-closed_grows : (s : Settings) (lanes : ℕ) (tl : Timeline) → Grows tl (closed s lanes tl)
-closed_grows s lanes tl = grows_then tl (served s lanes END_OF_TIME tl) _ (served_grows s lanes END_OF_TIME tl) (all_ended_grows s _ lanes (served s lanes END_OF_TIME tl))
+closed_grows : (s : Profile) (lanes : ℕ) (tl : Timeline) → Grows tl (closed s lanes tl)
+closed_grows s lanes tl = grows_then tl (served s.settings lanes END_OF_TIME tl) _ (served_grows s.settings lanes END_OF_TIME tl) (all_ended_grows s.settings s.session _ lanes (served s.settings lanes END_OF_TIME tl))
 
-part_grows : (s : Settings) (rs more : List Timed) → Grows (timeline s (reverse rs)) (timeline s (reverse (rs ++ more)))
+part_grows : (s : Profile) (rs more : List Timed) → Grows (timeline s (reverse rs)) (timeline s (reverse (rs ++ more)))
 part_grows s rs more =
     subst (λ (xs : List Timed). Grows (timeline s (reverse rs)) (timeline s xs)) (sym (reverse-append rs more)) (timeline_grows s (reverse more) (reverse rs))
 
-pub part : (s : Settings) (rs more : List Timed) → Begins (log_part s rs) (log_part s (rs ++ more))
+pub part : (s : Profile) (rs more : List Timed) → Begins (log_part s rs) (log_part s (rs ++ more))
 part s rs more = let g : Grows (timeline s (reverse rs)) (timeline s (reverse (rs ++ more))) = part_grows s rs more in (g.more, g.is)
 
-pub whole : (s : Settings) (rs more : List Timed) → Begins (log_part s rs) (log s (rs ++ more))
+pub whole : (s : Profile) (rs more : List Timed) → Begins (log_part s rs) (log s (rs ++ more))
 whole s rs more =
     let all : List Timed = reverse (rs ++ more) in
-    let g : Grows (timeline s (reverse rs)) (whole_timeline s all) = grows_then (timeline s (reverse rs)) (timeline s all) (whole_timeline s all) (part_grows s rs more) (closed_grows s (lane_count all) (timeline s all)) in
-    let last : List BinLine = done_line (length (rs ++ more)) (lane_count all) (lines (whole_timeline s all)) ∷ [] in
+    let g : Grows (timeline s (reverse rs)) (whole_timeline s all) = grows_then (timeline s (reverse rs)) (timeline s all) (whole_timeline s all) (part_grows s rs more) (closed_grows s (lane_count s all) (timeline s all)) in
+    let last : List BinLine = done_line (length (rs ++ more)) (lane_count s all) (lines (whole_timeline s all)) ∷ [] in
     (g.more ++ last, ap (λ (x : List BinLine). x ++ last) g.is ∙ append_assoc (log_part s rs) g.more last)

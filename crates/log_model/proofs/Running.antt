@@ -19,11 +19,12 @@ use Rattle.jitter_model.specs.History.{History, pushes, is_pusher}
 use Rattle.jitter_model.specs.Turns.{turn, is_quiet}
 use Rattle.jitter_model.specs.Runs.{IsValid, IsInRange, Run}
 use Rattle.timeline.specs.declared.line.BinLine.{BinLine}
-use Rattle.log_model.specs.declared.TheConstants.{SESSION, PAYLOAD_TYPE, OWN_SSRC, RTP_PORT, RTCP_PORT}
+use Rattle.log_model.specs.declared.TheConstants.{CONTROL}
+use Rattle.log_model.specs.declared.Profile.{Profile}
 use Rattle.log_model.specs.declared.Heard.{Heard}
 use Rattle.log_model.specs.declared.Heard.TheVariants as heard
 use Rattle.log_model.specs.Times.{Timed}
-use Rattle.log_model.specs.Captured.{IsCaptured, IsReplay}
+use Rattle.log_model.specs.Captured.{IsCaptured, pushers_of, IsProfile, IsReplay}
 use Rattle.log_model.specs.Front.{Brought, packet_from, heard_payload, heard_datagram, heard_of, source_of, lane_count, is_source, opening, brought}
 use Rattle.log_model.specs.Events.{Timeline, Told, At, lane}
 use Rattle.log_model.specs.Waking.{turned, turns, ticked, wake, rooms, serve, served, arrival_at, entry_of, pushed}
@@ -41,18 +42,18 @@ index_small [] i h = omega arith
 index_small (x ∷ xs) zero h = All-head IsByte x xs h
 index_small (x ∷ xs) (suc i) h = index_small xs i (All-tail IsByte x xs h)
 
-abbrev IsRanged : ℕ → Heard → Type 0
-IsRanged t (heard.Packet source p) = IsInRange (arrival_at t p)
-IsRanged t x = Unit {0}
+abbrev IsRanged : ℕ → ℕ → Heard → Type 0
+IsRanged session t (heard.Packet source p) = IsInRange (arrival_at session t p)
+IsRanged session t x = Unit {0}
 
-record Ranged (t : ℕ) (x : Heard) : Type 0 where
-  fact : IsRanged t x
+record Ranged (session t : ℕ) (x : Heard) : Type 0 where
+  fact : IsRanged session t x
 
 payload_short : (bytes : List ℕ) (from padding : ℕ) → length bytes ≤ 9216 → length (payload_of bytes from padding) ≤ 9216
 payload_short bytes from padding le = omega (arith, length-take (length bytes - padding - from) (drop from bytes), length-drop from bytes)
 
-packet_range : (t : ℕ) (bytes : List ℕ) → t < 2 ^ 63 → length bytes ≤ 9216 → All IsByte bytes → IsInRange (arrival_at t (packet_from (packet_of bytes)))
-packet_range t bytes early short h =
+packet_range : (session t : ℕ) (bytes : List ℕ) → session < 8 → t < 2 ^ 63 → length bytes ≤ 9216 → All IsByte bytes → IsInRange (arrival_at session t (packet_from (packet_of bytes)))
+packet_range session t bytes small early short h =
     let two : slice_index bytes 2 < 256 = index_small bytes 2 h in
     let three : slice_index bytes 3 < 256 = index_small bytes 3 h in
     let four : slice_index bytes 4 < 256 = index_small bytes 4 h in
@@ -62,19 +63,19 @@ packet_range t bytes early short h =
     let most : length (payload_of bytes (header_end bytes) (padding_of bytes)) ≤ 9216 = payload_short bytes (header_end bytes) (padding_of bytes) short in
     record { pusher = omega arith; k = omega arith; stamp = early; seq = omega arith; rtp = omega arith; pt = omega arith; payload = omega arith }
 
-payload_ranged : (t : ℕ) (from : Address) (bytes : List ℕ) (o : Option RtpFault) → t < 2 ^ 63 → length bytes ≤ 9216 → All IsByte bytes → Ranged t (heard_payload from bytes o)
-payload_ranged t from bytes (Some fault) early short h = record { fact = tt }
-payload_ranged t from bytes None early short h =
-    pick (Ranged t) ((packet_of bytes).pt == PAYLOAD_TYPE && not ((packet_of bytes).ssrc == OWN_SSRC)) _ _ (λ _. record { fact = packet_range t bytes early short h }) (λ _. record { fact = tt })
+payload_ranged : (s : Profile) (t : ℕ) (from : Address) (bytes : List ℕ) (o : Option RtpFault) → s.session < 8 → t < 2 ^ 63 → length bytes ≤ 9216 → All IsByte bytes → Ranged s.session t (heard_payload s from bytes o)
+payload_ranged s t from bytes (Some fault) small early short h = record { fact = tt }
+payload_ranged s t from bytes None small early short h =
+    pick (Ranged s.session t) ((packet_of bytes).pt == s.payload_type && not ((packet_of bytes).ssrc == s.own_ssrc)) _ _ (λ _. record { fact = packet_range s.session t bytes small early short h }) (λ _. record { fact = tt })
 
-datagram_ranged : (t : ℕ) (o : Result Sent Skip) → t < 2 ^ 63 → Good o → Ranged t (heard_datagram o)
-datagram_ranged t (Err why) early g = record { fact = tt }
-datagram_ranged t (Ok d) early g =
-    pick (Ranged t) (d.to.port == RTP_PORT) _ _ (λ _. payload_ranged t d.from d.payload (first_fault d.payload) early g.fact.0 g.fact.1)
-    (λ _. pick (Ranged t) (d.to.port == RTCP_PORT) _ _ (λ _. record { fact = tt }) (λ _. record { fact = tt }))
+datagram_ranged : (s : Profile) (t : ℕ) (o : Result Sent Skip) → s.session < 8 → t < 2 ^ 63 → Good o → Ranged s.session t (heard_datagram s o)
+datagram_ranged s t (Err why) small early g = record { fact = tt }
+datagram_ranged s t (Ok d) small early g =
+    pick (Ranged s.session t) (d.to.port == s.rtp_port) _ _ (λ _. payload_ranged s t d.from d.payload (first_fault d.payload) small early g.fact.0 g.fact.1)
+    (λ _. pick (Ranged s.session t) (d.to.port == s.rtcp_port) _ _ (λ _. record { fact = tt }) (λ _. record { fact = tt }))
 
-heard_ranged : (r : Timed) → IsCaptured r → Ranged r.time (heard_of r.captured)
-heard_ranged r c = datagram_ranged r.time (datagram_of r.captured) c.early (datagram_good r.captured c.bytes)
+heard_ranged : (s : Profile) (r : Timed) → s.session < 8 → IsCaptured r → Ranged s.session r.time (heard_of s r.captured)
+heard_ranged s r small c = datagram_ranged s r.time (datagram_of r.captured) small c.early (datagram_good r.captured c.bytes)
 
 -- ---- how many packets came to a lane
 
@@ -127,18 +128,40 @@ told_ready : (s : Settings) (count t : ℕ) (xs : List BinLine) (tl : Timeline) 
 told_ready s count t [] tl h = h
 told_ready s count t (x ∷ xs) tl h = told_ready s count t xs (Told t x ∷ tl) (record { runs = h.runs; few = h.few })
 
-session_pushes : (pushers : ℕ) → pushers ≡ 257 → is_pusher pushers SESSION ≡ true
-session_pushes pushers e = ap (λ (n : ℕ). is_pusher n SESSION) e
+-- the session and the script are pushers of the session's lane
+pub session_pushes : (session : ℕ) → session < 8 → is_pusher (pushers_of session) session ≡ true
+unfolding pushers_of
+session_pushes zero lt = refl
+session_pushes (suc zero) lt = refl
+session_pushes (suc (suc zero)) lt = refl
+session_pushes (suc (suc (suc zero))) lt = refl
+session_pushes (suc (suc (suc (suc zero)))) lt = refl
+session_pushes (suc (suc (suc (suc (suc zero))))) lt = refl
+session_pushes (suc (suc (suc (suc (suc (suc zero)))))) lt = refl
+session_pushes (suc (suc (suc (suc (suc (suc (suc zero))))))) lt = refl
+session_pushes (suc (suc (suc (suc (suc (suc (suc (suc n)))))))) lt = absurd (omega arith)
 
-pushed_run : (s : Settings) (t k l : ℕ) (p : Packet) (tl : Timeline) → s.pushers ≡ 257 → IsInRange (arrival_at t p) → pushes (lane k tl) < 2147483648 → ((m : ℕ) → Run s (lane m tl)) → Run s (lane l (pushed s t k (arrival_at t p) tl))
-pushed_run s t k l p tl pushers range few runs =
+pub control_pushes : (session : ℕ) → session < 8 → is_pusher (pushers_of session) CONTROL ≡ true
+unfolding pushers_of
+control_pushes zero lt = refl
+control_pushes (suc zero) lt = refl
+control_pushes (suc (suc zero)) lt = refl
+control_pushes (suc (suc (suc zero))) lt = refl
+control_pushes (suc (suc (suc (suc zero)))) lt = refl
+control_pushes (suc (suc (suc (suc (suc zero))))) lt = refl
+control_pushes (suc (suc (suc (suc (suc (suc zero)))))) lt = refl
+control_pushes (suc (suc (suc (suc (suc (suc (suc zero))))))) lt = refl
+control_pushes (suc (suc (suc (suc (suc (suc (suc (suc n)))))))) lt = absurd (omega arith)
+
+pushed_run : (s : Settings) (session t k l : ℕ) (p : Packet) (tl : Timeline) → is_pusher s.pushers session ≡ true → IsInRange (arrival_at session t p) → pushes (lane k tl) < 2147483648 → ((m : ℕ) → Run s (lane m tl)) → Run s (lane l (pushed s t k (arrival_at session t p) tl))
+pushed_run s session t k l p tl pusher range few runs =
     by_cases (k == l)
     (λ q. let eq : k ≡ l = grind (arith, common_steps) in
-    subst (λ (m : ℕ). Run s (lane m (pushed s t k (arrival_at t p) tl))) eq
-    (subst (Run s) (sym (lane_here t k (entry_of (arrival_at t p) (reply_to_push s (lane k tl) (arrival_at t p))) tl))
-    (record { pusher = session_pushes s.pushers pushers; few = few; in_range = range; verdict_is = refl; number_is = refl; dropped_is = refl }, runs k)))
+    subst (λ (m : ℕ). Run s (lane m (pushed s t k (arrival_at session t p) tl))) eq
+    (subst (Run s) (sym (lane_here t k (entry_of (arrival_at session t p) (reply_to_push s (lane k tl) (arrival_at session t p))) tl))
+    (record { pusher = pusher; few = few; in_range = range; verdict_is = refl; number_is = refl; dropped_is = refl }, runs k)))
     (λ q. let ne : k ≢ l = grind (arith, common_steps) in
-    subst (Run s) (sym (lane_other t k l (entry_of (arrival_at t p) (reply_to_push s (lane k tl) (arrival_at t p))) tl ne)) (runs l))
+    subst (Run s) (sym (lane_other t k l (entry_of (arrival_at session t p) (reply_to_push s (lane k tl) (arrival_at session t p))) tl ne)) (runs l))
 
 pushed_few : (s : Settings) (count t k l : ℕ) (a : Arrival) (tl : Timeline) → pushes (lane l tl) ≤ count → pushes (lane l (pushed s t k a tl)) ≤ suc count
 pushed_few s count t k l a tl le =
@@ -152,29 +175,30 @@ pushed_few s count t k l a tl le =
 more_ready : (s : Settings) (count : ℕ) (tl : Timeline) → AreReady s count tl → AreReady s (suc count) tl
 more_ready s count tl h = record { runs = h.runs; few = λ l. omega (arith, h.few l) }
 
-given_ready : (s : Settings) (count t : ℕ) (xs : List BinLine) (p : Packet) (tl : Timeline) → s.pushers ≡ 257 → t < 2 ^ 63 → count < 2147483648 → IsInRange (arrival_at t p) → AreReady s count tl → AreReady s (suc count) (with_brought s t (record { lines = xs; delivery = Some (record { lane = 0; packet = p }) }) tl)
-given_ready s count t xs p tl pushers early small range h =
-    let before : AreReady s count (all_told t xs tl) = told_ready s count t xs tl h in
-    ticked_ready s (suc count) t 0 (pushed s t 0 (arrival_at t p) (all_told t xs tl)) early
+given_ready : (s : Profile) (count t : ℕ) (xs : List BinLine) (p : Packet) (tl : Timeline) → IsProfile s → t < 2 ^ 63 → count < 2147483648 → IsInRange (arrival_at s.session t p) → AreReady s.settings count tl → AreReady s.settings (suc count) (with_brought s t (record { lines = xs; delivery = Some (record { lane = 0; packet = p }) }) tl)
+given_ready s count t xs p tl profile early small range h =
+    let before : AreReady s.settings count (all_told t xs tl) = told_ready s.settings count t xs tl h in
+    let pusher : is_pusher s.settings.pushers s.session ≡ true = ap (λ (n : ℕ). is_pusher n s.session) profile.pushers ∙ session_pushes s.session profile.session in
+    ticked_ready s.settings (suc count) t 0 (pushed s.settings t 0 (arrival_at s.session t p) (all_told t xs tl)) early
     (record {
-      runs = λ l. pushed_run s t 0 l p (all_told t xs tl) pushers range (omega (arith, before.few 0)) before.runs;
-      few = λ l. pushed_few s count t 0 l (arrival_at t p) (all_told t xs tl) (before.few l);
+      runs = λ l. pushed_run s.settings s.session t 0 l p (all_told t xs tl) pusher range (omega (arith, before.few 0)) before.runs;
+      few = λ l. pushed_few s.settings count t 0 l (arrival_at s.session t p) (all_told t xs tl) (before.few l);
     })
 
-brought_ready : (s : Settings) (older : List Timed) (r : Timed) (x : Heard) (tl : Timeline) → s.pushers ≡ 257 → r.time < 2 ^ 63 → length older < 2147483648 → Ranged r.time x → AreReady s (length older) tl → AreReady s (suc (length older)) (with_brought s r.time (brought s older r x) tl)
-brought_ready s older r (heard.Skip why) tl pushers early small range h = more_ready s (length older) _ (record { runs = h.runs; few = h.few })
-brought_ready s older r (heard.Bad why) tl pushers early small range h = more_ready s (length older) _ (record { runs = h.runs; few = h.few })
-brought_ready s older r (heard.Packet source p) tl pushers early small range h =
-    pick (λ (b : Brought). AreReady s (suc (length older)) (with_brought s r.time b tl)) (is_source (source_of (r ∷ older)) source) _ _
-    (λ _. given_ready s (length older) r.time (opening s r.time (source_of older) source) p tl pushers early small range.fact h)
-    (λ _. more_ready s (length older) _ (record { runs = h.runs; few = h.few }))
+brought_ready : (s : Profile) (older : List Timed) (r : Timed) (x : Heard) (tl : Timeline) → IsProfile s → r.time < 2 ^ 63 → length older < 2147483648 → Ranged s.session r.time x → AreReady s.settings (length older) tl → AreReady s.settings (suc (length older)) (with_brought s r.time (brought s older r x) tl)
+brought_ready s older r (heard.Skip why) tl profile early small range h = more_ready s.settings (length older) _ (record { runs = h.runs; few = h.few })
+brought_ready s older r (heard.Bad why) tl profile early small range h = more_ready s.settings (length older) _ (record { runs = h.runs; few = h.few })
+brought_ready s older r (heard.Packet source p) tl profile early small range h =
+    pick (λ (b : Brought). AreReady s.settings (suc (length older)) (with_brought s r.time b tl)) (is_source (source_of s (r ∷ older)) source) _ _
+    (λ _. given_ready s (length older) r.time (opening s r.time (source_of s older) source) p tl profile early small range.fact h)
+    (λ _. more_ready s.settings (length older) _ (record { runs = h.runs; few = h.few }))
 
-ready : (s : Settings) (rs : List Timed) → IsValid s → s.pushers ≡ 257 → length rs ≤ 2147483648 → All IsCaptured rs → AreReady s (length rs) (timeline s rs)
-ready s [] valid pushers few all = record { runs = λ l. valid; few = λ l. omega arith }
-ready s (r ∷ older) valid pushers few all =
+ready : (s : Profile) (rs : List Timed) → IsProfile s → length rs ≤ 2147483648 → All IsCaptured rs → AreReady s.settings (length rs) (timeline s rs)
+ready s [] profile few all = record { runs = λ l. profile.valid; few = λ l. omega arith }
+ready s (r ∷ older) profile few all =
     let first : IsCaptured r = All-head IsCaptured r older all in
-    brought_ready s older r (heard_of r.captured) (served s (lane_count older) r.time (timeline s older)) pushers first.early (omega arith) (heard_ranged r first)
-    (served_ready s (length older) (lane_count older) r.time (timeline s older) first.early (ready s older valid pushers (omega arith) (All-tail IsCaptured r older all)))
+    brought_ready s older r (heard_of s r.captured) (served s.settings (lane_count s older) r.time (timeline s older)) profile first.early (omega arith) (heard_ranged s r profile.session first)
+    (served_ready s.settings (length older) (lane_count s older) r.time (timeline s older) first.early (ready s older profile (omega arith) (All-tail IsCaptured r older all)))
 
 all_reverse : (rs : List Timed) → All IsCaptured rs → All IsCaptured (reverse rs)
 all_reverse [] h = h
@@ -182,5 +206,5 @@ all_reverse (r ∷ rs) h =
     subst (All IsCaptured) (sym (reverse-append (r ∷ []) rs))
     (All-append IsCaptured (reverse rs) (r ∷ []) (all_reverse rs (All-tail IsCaptured r rs h)) (All-cons IsCaptured r [] (All-head IsCaptured r rs h) (λ k d lt. absurd (omega arith))))
 
-pub lanes_run : (s : Settings) (rs : List Timed) → IsReplay s rs → (l : ℕ) → Run s (lane l (timeline s (reverse rs)))
-lanes_run s rs h = (ready s (reverse rs) h.valid h.pushers (omega (arith, length-reverse rs, h.few)) (all_reverse rs h.captured)).runs
+pub lanes_run : (s : Profile) (rs : List Timed) → IsReplay s rs → (l : ℕ) → Run s.settings (lane l (timeline s (reverse rs)))
+lanes_run s rs h = (ready s (reverse rs) h.profile (omega (arith, length-reverse rs, h.few)) (all_reverse rs h.captured)).runs

@@ -9,7 +9,7 @@ use Rattle.jitter_model.specs.declared.Entry.{Entry}
 use Rattle.jitter_model.specs.declared.Entry.TheVariants.{Push, Clock, Ends, Turned}
 use Rattle.jitter_model.specs.Verdicts.{pushed as reply_to_push}
 use Rattle.jitter_model.specs.Turns.{turn, is_quiet, wake_of, left}
-use Rattle.log_model.specs.declared.TheConstants.{SESSION, CONTROL}
+use Rattle.log_model.specs.declared.TheConstants.{CONTROL}
 use Rattle.log_model.specs.Front.{Delivery}
 use Rattle.log_model.specs.Events.{Timeline, At, lane}
 
@@ -84,9 +84,9 @@ served s count limit tl = serve (rooms limit (wake s tl) count) s count limit tl
 
 -- ---- packets
 
--- a packet of the session as it comes at a time
-abbrev pub arrival_at : ℕ → Packet → Arrival
-arrival_at t p = record { pusher = SESSION; k = 0; stamp = t; origin = Original; packet = p }
+-- a packet of a session as it comes at a time
+abbrev pub arrival_at : ℕ → ℕ → Packet → Arrival
+arrival_at session t p = record { pusher = session; k = 0; stamp = t; origin = Original; packet = p }
 
 abbrev pub entry_of : Arrival → Pushed → Entry
 entry_of a reply = Push a reply.verdict reply.number reply.aside_dropped
@@ -95,18 +95,18 @@ entry_of a reply = Push a reply.verdict reply.number reply.aside_dropped
 abbrev pub pushed : Settings → ℕ → ℕ → Arrival → Timeline → Timeline
 pushed s t l a tl = At t l (entry_of a (reply_to_push s (lane l tl) a)) ∷ tl
 
--- a packet comes to its lane, which takes turns then
-abbrev pub delivered : Settings → ℕ → Option Delivery → Timeline → Timeline
-delivered s t None tl = tl
-delivered s t (Some d) tl = ticked s t d.lane (pushed s t d.lane (arrival_at t d.packet) tl)
+-- a packet of a session comes to its lane, which takes turns then
+abbrev pub delivered : Settings → ℕ → ℕ → Option Delivery → Timeline → Timeline
+delivered s session t None tl = tl
+delivered s session t (Some d) tl = ticked s t d.lane (pushed s t d.lane (arrival_at session t d.packet) tl)
 
 -- ---- ends
 
 -- the pushers of a lane end, the session and then the script, and turns are taken after each
-abbrev pub ended : Settings → ℕ → ℕ → Timeline → Timeline
-ended s t l tl = settled s t l (At t l (Ends CONTROL) ∷ settled s t l (At t l (Ends SESSION) ∷ tl))
+abbrev pub ended : Settings → ℕ → ℕ → ℕ → Timeline → Timeline
+ended s session t l tl = settled s t l (At t l (Ends CONTROL) ∷ settled s t l (At t l (Ends session) ∷ tl))
 
 -- the first lanes end, in order
-abbrev pub all_ended : Settings → ℕ → ℕ → Timeline → Timeline
-all_ended s t zero tl = tl
-all_ended s t (suc l) tl = ended s t l (all_ended s t l tl)
+abbrev pub all_ended : Settings → ℕ → ℕ → ℕ → Timeline → Timeline
+all_ended s session t zero tl = tl
+all_ended s session t (suc l) tl = ended s session t l (all_ended s session t l tl)

@@ -6,6 +6,7 @@ ghost use Rattle.jitter_model.specs.Turns.{turn, is_quiet};
 ghost use Rattle.jitter_model.specs.Runs.{Run};
 ghost use Rattle.pcap_file.specs.Capture.{Record};
 ghost use Rattle.log_model.specs.Times.{Timed, at_times, timed_after};
+ghost use Rattle.log_model.specs.declared.Profile.{Profile};
 ghost use Rattle.log_model.specs.declared.Source.{Source};
 ghost use Rattle.log_model.specs.Front.{source_of};
 ghost use Rattle.log_model.specs.Events.{Timeline, lane};
@@ -17,9 +18,9 @@ ghost use Rattle.log_model.specs.declared.TheConstants.{END_OF_TIME as LAST};
 /// Without records nothing is told. What is told of some records begins what is told of them and more,
 /// and the whole log of these.
 pub fn goes_on()
-    ensures none { (s : Settings) → log_part s [] ≡ [] }
-    ensures part { (s : Settings) (rs more : List Timed) → Begins (log_part s rs) (log_part s (rs ++ more)) }
-    ensures whole { (s : Settings) (rs more : List Timed) → Begins (log_part s rs) (log s (rs ++ more)) }
+    ensures none { (s : Profile) → log_part s [] ≡ [] }
+    ensures part { (s : Profile) (rs more : List Timed) → Begins (log_part s rs) (log_part s (rs ++ more)) }
+    ensures whole { (s : Profile) (rs more : List Timed) → Begins (log_part s rs) (log s (rs ++ more)) }
 {}
 
 /// A record's time hangs on it and the records before it alone.
@@ -30,7 +31,7 @@ pub fn times_go_on()
 
 /// The lane's source stays that of the first packet, whatever records come after it.
 pub fn keeps_its_source()
-    ensures { (newer older : List Timed) (source : Source) → source_of older ≡ Some source → source_of (newer ++ older) ≡ Some source }
+    ensures { (s : Profile) (newer older : List Timed) (source : Source) → source_of s older ≡ Some source → source_of s (newer ++ older) ≡ Some source }
 {}
 
 /// Turns are taken until one is answered Idle or Flushing: the definition's count of them is enough.
@@ -49,11 +50,11 @@ pub fn serves_all()
 
 /// In a replay of captured records each lane is a run of the list machine.
 pub fn lanes_are_runs()
-    ensures { (s : Settings) (rs : List Timed) → IsReplay s rs → (l : ℕ) → Run s (lane l (timeline s (reverse rs))) }
+    ensures { (s : Profile) (rs : List Timed) → IsReplay s rs → (l : ℕ) → Run s.settings (lane l (timeline s (reverse rs))) }
 {}
 
 /// After the wakes that are served at the end no lane has one: every wake of a run is below that limit.
 pub fn leaves_no_wake()
     ensures runs { (s : Settings) (count : ℕ) (tl : Timeline) → ((l : ℕ) → l < count → Run s (lane l tl)) → first_wake (wake s (served s count LAST tl)) count ≡ None }
-    ensures replay { (s : Settings) (rs : List Timed) → IsReplay s rs → (count : ℕ) → first_wake (wake s (served s count LAST (timeline s (reverse rs)))) count ≡ None }
+    ensures replay { (s : Profile) (rs : List Timed) → IsReplay s rs → (count : ℕ) → first_wake (wake s.settings (served s.settings count LAST (timeline s (reverse rs)))) count ≡ None }
 {}

@@ -5,30 +5,32 @@
 
 pub mod laws;
 
-use jitter_model::Packet;
+use jitter_model::{Packet, Settings};
 use rtp_units::Address;
 use timeline::Word;
-
-/// The port of the session's RTP packets.
-pub const RTP_PORT: u16 = 5004;
-
-/// The port of the session's RTCP packets.
-pub const RTCP_PORT: u16 = 5005;
-
-/// The payload type of the session.
-pub const PAYLOAD_TYPE: u8 = 96;
-
-/// The program's own SSRC, which no sender may use.
-pub const OWN_SSRC: u32 = 1;
-
-/// The number of the session.
-pub const SESSION: u8 = 0;
 
 /// The pusher that stands for the script.
 pub const CONTROL: u8 = 8;
 
 /// Later than every wake: a presentation time is below 2^63 nanoseconds, a latency at most 600 seconds.
 pub const END_OF_TIME: u64 = 9_224_497_936_761_618_431;
+
+/// What a script chooses for its one session.
+#[derive(Clone, Copy, Debug, PartialEq, Eq, Drop)]
+pub struct Profile {
+    /// The number of the session, from 0 to 7.
+    pub session: u8,
+    /// The port of its RTP packets.
+    pub rtp_port: u16,
+    /// The port of its RTCP packets, another one.
+    pub rtcp_port: u16,
+    /// Its one payload type.
+    pub payload_type: u8,
+    /// The program's own SSRC, which no sender may use.
+    pub own_ssrc: u32,
+    /// The settings of its lane, whose pushers are the session and the script.
+    pub settings: Settings,
+}
 
 /// Who sends a stream.
 #[derive(Clone, Copy, Debug, PartialEq, Eq, Drop)]
@@ -42,7 +44,7 @@ pub struct Source {
 pub enum Heard {
     /// Nothing for the session.
     Skip(Word),
-    /// A payload on the RTP port that is no RTP packet.
+    /// A payload on the session's RTP port that is no RTP packet.
     Bad(Word),
     /// A packet of this source.
     Packet(Source, Packet),

@@ -1,14 +1,17 @@
--- The settings of a script that is built are those of a lane.
-use Rattle.std.proofs.Common.{◌≡◌, ℕ, ◌*◌, ◌/◌, ◌%◌, ◌≤◌, Bool, true, false, List, [], ◌∷◌, Option, Some, None, refl, sym, ap, ◌∙◌, arith, lit<}
+-- The profile of a script that is built is in its ranges.
+use Rattle.std.proofs.Common.{◌≡◌, ℕ, zero, suc, ◌<◌, ◌*◌, ◌/◌, ◌%◌, ◌≤◌, Bool, true, false, List, [], ◌∷◌, Option, Some, None, refl, sym, ap, ◌∙◌, arith, lit<}
 use Rattle.std.specs.Prelude.{◌==◌, ◌&&◌, not, nat_le, nat_lt, ◌^◌, option_map, if◌then◌else◌}
 use Rattle.std.specs.List.{list_all}
 use Rattle.std.proofs.lemmas.Bool.{and_parts, eqb-true, leb-true}
-use Rattle.bin_core.specs.Stages.{IsOneSession}
+use Rattle.jitter_model.specs.Runs.{IsValid}
+use Rattle.log_model.specs.declared.Profile.{Profile}
+use Rattle.log_model.specs.Captured.{pushers_of, IsProfile}
 use Rattle.script_lang.specs.declared.script.PtLine.{PtLine}
+use Rattle.script_lang.specs.declared.script.SessionLine.{SessionLine}
 use Rattle.script_lang.specs.Contents.{Contents, IsScript}
-use Rattle.script_lang.specs.Entries.{pt_fits}
+use Rattle.script_lang.specs.Entries.{session_fits, pt_fits}
 use Rattle.script_lang.specs.Settings.{is_within, is_time_within}
-use Rattle.rtpbin_cli.specs.Script.{is_built, are_built, rate_in, settings_with, built_settings}
+use Rattle.rtpbin_cli.specs.Script.{is_built, only_session, only_type, profile_with, profile_from, built_profile}
 
 within : (least most n : ℕ) → is_within least most n ≡ true → (least ≤ n) × (n ≤ most)
 within least most n h = let both = and_parts (nat_le least n) (nat_le n most) h in (leb-true least n both.0, leb-true n most both.1)
@@ -21,28 +24,83 @@ time_within least most ns h =
     let range = within least most (ns / 1000000) both.1 in
     (omega (arith, rest, range.0), omega (arith, rest, range.1))
 
-rate_fits : (pts : List PtLine) (rate : ℕ) → list_all pt_fits pts ≡ true → rate_in pts ≡ Some rate → (1 ≤ rate) × (rate ≤ 1000000)
-rate_fits (line ∷ []) rate fits is = at (line.pt == 96) is
+pub session_fits_in : (lines : List SessionLine) (line : SessionLine) → list_all session_fits lines ≡ true → only_session lines ≡ Some line → line.session < 8
+session_fits_in (one ∷ []) line fits is = at (one.rtp == one.rtcp) is
   where
-    range : (1 ≤ line.rate) × (line.rate ≤ 1000000)
-    range = within 1 1000000 line.rate (and_parts (is_within 0 7 line.session && is_within 0 127 line.pt) (is_within 1 1000000 line.rate) (and_parts (pt_fits line) true fits).0).1
+    range : one.session ≤ 7
+    range = (within 0 7 one.session (and_parts (is_within 0 7 one.session) (is_within 1 65535 one.rtp) (and_parts (is_within 0 7 one.session && is_within 1 65535 one.rtp) (is_within 1 65535 one.rtcp) (and_parts (session_fits one) true fits).0).0).0).1
 
-    at : (b : Bool) → (if b then Some line.rate else None) ≡ Some rate → (1 ≤ rate) × (rate ≤ 1000000)
-    at true e = let same : line.rate ≡ rate = cc in (omega (arith, range.0, same), omega (arith, range.1, same))
-    at false e = absurd cc
-rate_fits [] rate fits is = absurd cc
-rate_fits (a ∷ b ∷ more) rate fits is = absurd cc
+    at : (b : Bool) → (if b then None else Some one) ≡ Some line → line.session < 8
+    at true e = absurd cc
+    at false e = let same : one ≡ line = cc in omega (arith, range, ap (λ (l : SessionLine). l.session) same)
+session_fits_in [] line fits is = absurd cc
+session_fits_in (a ∷ b ∷ more) line fits is = absurd cc
 
-pub no_settings : (c : Contents) → is_built c ≡ false → None ≡ built_settings c
-unfolding built_settings
-no_settings c is = sym (ap (λ (b : Bool). if b then option_map (settings_with c) (rate_in c.pts) else None) is)
+rate_fits : (pts : List PtLine) (line : PtLine) → list_all pt_fits pts ≡ true → only_type pts ≡ Some line → (1 ≤ line.rate) × (line.rate ≤ 1000000)
+rate_fits (one ∷ []) line fits is =
+    let same : one ≡ line = cc in
+    let range = within 1 1000000 one.rate (and_parts (is_within 0 7 one.session && is_within 0 127 one.pt) (is_within 1 1000000 one.rate) (and_parts (pt_fits one) true fits).0).1 in
+    let rate = ap (λ (l : PtLine). l.rate) same in
+    (omega (arith, range.0, rate), omega (arith, range.1, rate))
+rate_fits [] line fits is = absurd cc
+rate_fits (a ∷ b ∷ more) line fits is = absurd cc
 
-pub lane_settings : (c : Contents) (rate : Option ℕ) → is_built c ≡ true → rate ≡ rate_in c.pts → option_map (settings_with c) rate ≡ built_settings c
-unfolding built_settings
-lane_settings c rate is same = ap (option_map (settings_with c)) same ∙ sym (ap (λ (b : Bool). if b then option_map (settings_with c) (rate_in c.pts) else None) is)
+pub no_profile : (c : Contents) → is_built c ≡ false → None ≡ built_profile c
+unfolding built_profile
+no_profile c is = sym (ap (λ (b : Bool). if b then profile_from c.settings (only_session c.sessions) (only_type c.pts) else None) is)
 
-pub is_lane : (c : Contents) (rate : ℕ) → IsScript c → rate_in c.pts ≡ Some rate → IsOneSession (settings_with c rate)
-is_lane c rate script is =
+pub the_profile : (c : Contents) (session : Option SessionLine) (pt : Option PtLine) → is_built c ≡ true → session ≡ only_session c.sessions → pt ≡ only_type c.pts → profile_from c.settings session pt ≡ built_profile c
+unfolding built_profile
+the_profile c session pt is one two =
+    ap (λ (x : Option SessionLine). profile_from c.settings x pt) one ∙ ap (profile_from c.settings (only_session c.sessions)) two
+    ∙ sym (ap (λ (b : Bool). if b then profile_from c.settings (only_session c.sessions) (only_type c.pts) else None) is)
+
+pub pushers_0 : 257 ≡ pushers_of 0
+unfolding pushers_of
+pushers_0 = refl
+
+pub pushers_1 : 258 ≡ pushers_of 1
+unfolding pushers_of
+pushers_1 = refl
+
+pub pushers_2 : 260 ≡ pushers_of 2
+unfolding pushers_of
+pushers_2 = refl
+
+pub pushers_3 : 264 ≡ pushers_of 3
+unfolding pushers_of
+pushers_3 = refl
+
+pub pushers_4 : 272 ≡ pushers_of 4
+unfolding pushers_of
+pushers_4 = refl
+
+pub pushers_5 : 288 ≡ pushers_of 5
+unfolding pushers_of
+pushers_5 = refl
+
+pub pushers_6 : 320 ≡ pushers_of 6
+unfolding pushers_of
+pushers_6 = refl
+
+pub pushers_7 : 384 ≡ pushers_of 7
+unfolding pushers_of
+pushers_7 = refl
+
+few_pushers : (session : ℕ) → session < 8 → pushers_of session < 512
+unfolding pushers_of
+few_pushers zero lt = lit< tt
+few_pushers (suc zero) lt = lit< tt
+few_pushers (suc (suc zero)) lt = lit< tt
+few_pushers (suc (suc (suc zero))) lt = lit< tt
+few_pushers (suc (suc (suc (suc zero)))) lt = lit< tt
+few_pushers (suc (suc (suc (suc (suc zero))))) lt = lit< tt
+few_pushers (suc (suc (suc (suc (suc (suc zero)))))) lt = lit< tt
+few_pushers (suc (suc (suc (suc (suc (suc (suc zero))))))) lt = lit< tt
+few_pushers (suc (suc (suc (suc (suc (suc (suc (suc n)))))))) lt = absurd (omega arith)
+
+pub is_profile : (c : Contents) (session : SessionLine) (pt : PtLine) → IsScript c → only_session c.sessions ≡ Some session → only_type c.pts ≡ Some pt → IsProfile (profile_with c.settings session pt)
+is_profile c session pt script one two =
     let s = c.settings in
     let others = is_time_within 0 600000 s.report && (is_time_within 1 600000 s.timeout && (is_within 1 4096 s.history && (nat_lt s.ssrc (2 ^ 32) && true))) in
     let latency = and_parts (is_time_within 0 600000 s.latency) _ script.settings_fit in
@@ -54,8 +112,10 @@ is_lane c rate script is =
     let misorder = and_parts (is_within 0 1000 s.misorder) _ dropout.1 in
     let probation = and_parts (is_within 0 16 s.probation) _ misorder.1 in
     let faststart = and_parts (is_within 0 1000 s.faststart) others probation.1 in
-    let rates = rate_fits c.pts rate script.pts_fit is in
+    let rates = rate_fits c.pts pt script.pts_fit two in
+    let small : session.session < 8 = session_fits_in c.sessions session script.sessions_fit one in
     record {
+      session = small;
       valid = record {
         rate_from = rates.0;
         rate_to = rates.1;
@@ -69,7 +129,7 @@ is_lane c rate script is =
         dropout_to = (within 1 30000 s.dropout dropout.0).1;
         misorder_to = (within 0 1000 s.misorder misorder.0).1;
         faststart_to = (within 0 1000 s.faststart faststart.0).1;
-        pushers_to = lit< tt;
+        pushers_to = few_pushers session.session small;
       };
       pushers = refl;
     }

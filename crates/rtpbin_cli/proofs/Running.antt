@@ -6,7 +6,7 @@ use Rattle.std.proofs.lemmas.Slice.Eq.{bytes_eq-Decides}
 use Rattle.rtp_io.specs.Outside.{Disk, SameDisk, IsOpened, IsClosed, Adds, AddsFront}
 use Rattle.rtp_io.specs.Laws.{told_then, adds_none, adds_same}
 use Rattle.pcap_file.specs.Capture.{capture_of}
-use Rattle.jitter_model.specs.declared.Settings.{Settings}
+use Rattle.log_model.specs.declared.Profile.{Profile}
 use Rattle.rtpbin_cli.specs.declared.script.ScriptFault.{ScriptFault}
 use Rattle.rtpbin_cli.specs.declared.stop.Stop.{Stop}
 use Rattle.rtpbin_cli.specs.declared.stop.Stop.TheVariants as stop
@@ -41,8 +41,8 @@ pub each_goes_on : (contents : List ℕ → List ℕ) (form : Form) (output : Ou
 each_goes_on contents (Dump capture) output is = let e : dump_output ≡ output = cc in subst GoesOn e dump_goes_on
 each_goes_on contents (Replay hex capture script) output is = at (script_of (contents script)) is
   where
-    at : (read : Result Settings ScriptFault) → replay_by hex read ≡ Ok output → GoesOn output
-    at (Ok settings) e = let same : replay_output hex settings ≡ output = cc in subst GoesOn same (replay_goes_on hex settings)
+    at : (read : Result Profile ScriptFault) → replay_by hex read ≡ Ok output → GoesOn output
+    at (Ok profile) e = let same : replay_output hex profile ≡ output = cc in subst GoesOn same (replay_goes_on hex profile)
     at (Err fault) e = absurd cc
 
 read_closed : (form : Form) (after : Disk) → after.opened ≡ None → read_out (Some form) after ≡ []
@@ -51,23 +51,23 @@ read_closed form after closed =
     ∙ part_none (output_by after.contents form) [] (λ output is. ((each_goes_on after.contents form output is).none, no_records [] (omega arith)))
 
 -- the script is open, and perhaps it is the capture too
-script_given : (capture script : List ℕ) (settings : Settings) (after : Disk) → AreBytes (after.contents capture) → after.opened ≡ Some script → script_of (after.contents script) ≡ Ok settings → (capture_of (given_of capture after)).records ≡ []
-script_given capture script settings after bytes opened is =
+script_given : (capture script : List ℕ) (profile : Profile) (after : Disk) → AreBytes (after.contents capture) → after.opened ≡ Some script → script_of (after.contents script) ≡ Ok profile → (capture_of (given_of capture after)).records ≡ []
+script_given capture script profile after bytes opened is =
     ap (λ (o : Option (List ℕ)). (capture_of (given_from capture after o)).records) opened ∙ at (bytes_eq script capture) refl
   where
     at : (b : Bool) → bytes_eq script capture ≡ b → (capture_of (if b then take (length (after.contents capture) - length after.left) (after.contents capture) else [])).records ≡ []
-    at true same = begins_no_capture (after.contents capture) settings (length (after.contents capture) - length after.left) bytes (subst (λ (n : List ℕ). script_of (after.contents n) ≡ Ok settings) ((bytes_eq-Decides script capture).0 same) is)
+    at true same = begins_no_capture (after.contents capture) profile (length (after.contents capture) - length after.left) bytes (subst (λ (n : List ℕ). script_of (after.contents n) ≡ Ok profile) ((bytes_eq-Decides script capture).0 same) is)
     at false same = no_records [] (omega arith)
 
--- where a replay has an output, its script has settings
-settings_by : (hex : Bool) (read : Result Settings ScriptFault) (output : Output) → replay_by hex read ≡ Ok output → (settings : Settings) × (read ≡ Ok settings)
-settings_by hex (Ok settings) output is = (settings, refl)
-settings_by hex (Err fault) output is = absurd cc
+-- where a replay has an output, its script has a profile
+profile_by : (hex : Bool) (read : Result Profile ScriptFault) (output : Output) → replay_by hex read ≡ Ok output → (profile : Profile) × (read ≡ Ok profile)
+profile_by hex (Ok profile) output is = (profile, refl)
+profile_by hex (Err fault) output is = absurd cc
 
 read_script_out : (hex : Bool) (capture script : List ℕ) (after : Disk) → AreBytes (after.contents capture) → after.opened ≡ Some script → read_out (Some (Replay hex capture script)) after ≡ []
 read_script_out hex capture script after bytes opened =
     part_none (replay_by hex (script_of (after.contents script))) (given_of capture after)
-    (λ output is. ((each_goes_on after.contents (Replay hex capture script) output is).none, let s = settings_by hex (script_of (after.contents script)) output is in script_given capture script s.0 after bytes opened s.1))
+    (λ output is. ((each_goes_on after.contents (Replay hex capture script) output is).none, let s = profile_by hex (script_of (after.contents script)) output is in script_given capture script s.0 after bytes opened s.1))
 
 -- ---- the parts
 
@@ -75,7 +75,7 @@ pub script_stops : (hex : Bool) (capture script : List ℕ) (why : Stop) (before
     → Runs (Err why) (wanted_of before.contents (Replay hex capture script)) (Some (Replay hex capture script)) after old old
 script_stops hex capture script (stop.Script fault) before after old same bytes is told =
     let c = capture_of (before.contents capture) in
-    let w : want_from (replay_by hex (script_of (before.contents script))) c ≡ BadScript fault = ap (λ (r : Result Settings ScriptFault). want_from (replay_by hex r) c) (is told) in
+    let w : want_from (replay_by hex (script_of (before.contents script))) c ≡ BadScript fault = ap (λ (r : Result Profile ScriptFault). want_from (replay_by hex r) c) (is told) in
     (ap stop_of w, adds_same [] (out_of (wanted_of before.contents (Replay hex capture script))) old old (sym (ap out_of w)) (adds_none old))
 script_stops hex capture script stop.Read before after old same bytes is told = elim (is told) [
   | inl closed ↦ adds_same [] (read_out (Some (Replay hex capture script)) after) old old (sym (read_closed (Replay hex capture script) after closed)) (adds_none old)

@@ -12,7 +12,7 @@ use Rattle.pcap_file.specs.declared.order.Order.{Order}
 use Rattle.pcap_file.specs.declared.order.Order.TheVariants.{Little, Big}
 use Rattle.pcap_file.specs.Numbers.{number_at}
 use Rattle.pcap_file.specs.Capture.{capture_of, format_of, format_in, order_of, behind_header, empty}
-use Rattle.jitter_model.specs.declared.Settings.{Settings}
+use Rattle.log_model.specs.declared.Profile.{Profile}
 use Rattle.script_lang.specs.declared.fault.ScriptCause.TheVariants.{Size}
 use Rattle.script_lang.specs.declared.fault.ScriptFault.{ScriptFault as Refusal}
 use Rattle.script_lang.specs.declared.fault.ScriptFault.TheVariants as refusal
@@ -45,10 +45,10 @@ no_records bytes short = rw (lt-ltb (length bytes) 24 short) refl
 
 -- ---- a script without a fault begins no capture
 
-contents_known : (read : Result Contents Refusal) (settings : Settings) → script_from read ≡ Ok settings → (c : Contents) × (read ≡ Ok c)
-contents_known (Ok c) settings is = (c, refl)
-contents_known (Err (refusal.Bad line cause)) settings is = absurd cc
-contents_known (Err refusal.OutOfMemory) settings is = absurd cc
+contents_known : (read : Result Contents Refusal) (profile : Profile) → script_from read ≡ Ok profile → (c : Contents) × (read ≡ Ok c)
+contents_known (Ok c) profile is = (c, refl)
+contents_known (Err (refusal.Bad line cause)) profile is = absurd cc
+contents_known (Err refusal.OutOfMemory) profile is = absurd cc
 
 -- a capture's first bytes, by the four magic numbers
 pub record BeginsOtherwise (a b c : ℕ) : Type 0 where
@@ -109,8 +109,8 @@ no_capture a b c d xs la lb lc ld begins = at (nat_lt (length (a ∷ b ∷ c ∷
     at false = by_order (starts_with nat_eq head (0x0a ∷ 0x0d ∷ 0x0d ∷ 0x0a ∷ [])) (order_of head) (no_order a b c d (take 20 xs) la lb lc ld begins)
 
 -- nor does a front of it
-pub begins_no_capture : (text : List ℕ) (settings : Settings) (k : ℕ) → AreBytes text → script_of text ≡ Ok settings → (capture_of (take k text)).records ≡ []
-begins_no_capture text settings k bytes is = let known = contents_known (read_script text) settings is in at text k bytes known.0 known.1
+pub begins_no_capture : (text : List ℕ) (profile : Profile) (k : ℕ) → AreBytes text → script_of text ≡ Ok profile → (capture_of (take k text)).records ≡ []
+begins_no_capture text profile k bytes is = let known = contents_known (read_script text) profile is in at text k bytes known.0 known.1
   where
     at : (text : List ℕ) (k : ℕ) → AreBytes text → (c : Contents) → read_script text ≡ Ok c → (capture_of (take k text)).records ≡ []
     at (a ∷ b ∷ c ∷ d ∷ xs) (suc (suc (suc (suc k)))) bytes contents is =
@@ -126,8 +126,8 @@ begins_no_capture text settings k bytes is = let known = contents_known (read_sc
 
 -- ---- a script that was read
 
-pub reads_script : (r : Result Settings Stop) (name text : List ℕ) (before after : Disk) → (IsTrue before.told → script_of (before.contents name) ≡ script_of text) → ReadsText r text → ReadsScript r name before after
-reads_script (Ok settings) name text before after same reads = λ told. same told ∙ reads
+pub reads_script : (r : Result Profile Stop) (name text : List ℕ) (before after : Disk) → (IsTrue before.told → script_of (before.contents name) ≡ script_of text) → ReadsText r text → ReadsScript r name before after
+reads_script (Ok profile) name text before after same reads = λ told. same told ∙ reads
 reads_script (Err (stop.Script fault)) name text before after same reads = λ told. same told ∙ reads
 reads_script (Err stop.Memory) name text before after same reads = tt
 reads_script (Err stop.Usage) name text before after same reads = absurd reads
@@ -135,8 +135,8 @@ reads_script (Err stop.Read) name text before after same reads = absurd reads
 reads_script (Err stop.Write) name text before after same reads = absurd reads
 reads_script (Err (stop.Capture fault)) name text before after same reads = absurd reads
 
-pub reads_cause : (r : Result Settings Stop) (text : List ℕ) (f f' : ℕ) → f' ≡ f → ReadsText r text → HasStopCause r f f' 0 0
-reads_cause (Ok settings) text f f' same reads = (same, refl)
+pub reads_cause : (r : Result Profile Stop) (text : List ℕ) (f f' : ℕ) → f' ≡ f → ReadsText r text → HasStopCause r f f' 0 0
+reads_cause (Ok profile) text f f' same reads = (same, refl)
 reads_cause (Err (stop.Script fault)) text f f' same reads = (same, refl)
 reads_cause (Err stop.Memory) text f f' same reads = (same, refl)
 reads_cause (Err stop.Usage) text f f' same reads = absurd reads

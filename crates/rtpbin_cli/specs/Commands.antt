@@ -2,7 +2,7 @@
 use Rattle.std.specs.Prelude.{ℕ, Bool, List, Result, Ok, Err}
 use Rattle.std.specs.List.{flat_map}
 use Rattle.pcap_file.specs.Capture.{Record}
-use Rattle.jitter_model.specs.declared.Settings.{Settings}
+use Rattle.log_model.specs.declared.Profile.{Profile}
 use Rattle.timeline.specs.declared.line.BinLine.{BinLine}
 use Rattle.log_model.specs.Times.{at_times}
 use Rattle.log_model.specs.Log.{log_part, log}
@@ -18,18 +18,18 @@ abbrev pub texts_of : Bool → List BinLine → List ℕ
 texts_of hex lines = flat_map (line_text hex) lines
 
 -- the log of the records that were replayed so far, each at its time
-unfoldable pub replay_part : Bool → Settings → List Record → List ℕ
-replay_part hex settings seen = texts_of hex (log_part settings (at_times seen))
+unfoldable pub replay_part : Bool → Profile → List Record → List ℕ
+replay_part hex profile seen = texts_of hex (log_part profile (at_times seen))
 
-unfoldable pub replay_whole : Bool → Settings → List Record → List ℕ
-replay_whole hex settings seen = texts_of hex (log settings (at_times seen))
+unfoldable pub replay_whole : Bool → Profile → List Record → List ℕ
+replay_whole hex profile seen = texts_of hex (log profile (at_times seen))
 
-abbrev pub replay_output : Bool → Settings → Output
-replay_output hex settings = record { part = replay_part hex settings; whole = replay_whole hex settings }
+abbrev pub replay_output : Bool → Profile → Output
+replay_output hex profile = record { part = replay_part hex profile; whole = replay_whole hex profile }
 
-abbrev pub replay_by : Bool → Result Settings ScriptFault → Result Output ScriptFault
+abbrev pub replay_by : Bool → Result Profile ScriptFault → Result Output ScriptFault
 replay_by hex (Err fault) = Err fault
-replay_by hex (Ok settings) = Ok (replay_output hex settings)
+replay_by hex (Ok profile) = Ok (replay_output hex profile)
 
 abbrev pub output_by : (List ℕ → List ℕ) → Form → Result Output ScriptFault
 output_by contents (Replay hex capture script) = replay_by hex (script_of (contents script))

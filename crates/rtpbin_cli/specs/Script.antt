@@ -1,7 +1,8 @@
--- The settings of the lane that a script makes, by the script's bytes.
-use Rattle.std.specs.Prelude.{ℕ, List, [], ◌∷◌, length, Bool, false, not, Option, Some, None, option_map, Result, Ok, Err, ◌==◌, ◌&&◌, if◌then◌else◌}
+-- The profile that a script makes, by the script's bytes.
+use Rattle.std.specs.Prelude.{ℕ, List, [], ◌∷◌, length, Bool, not, Option, Some, None, Result, Ok, Err, ◌==◌, ◌&&◌, if◌then◌else◌}
 use Rattle.jitter_model.specs.declared.Settings.{Settings}
-use Rattle.log_model.specs.declared.TheConstants.{OWN_SSRC, PAYLOAD_TYPE, RTCP_PORT, RTP_PORT, SESSION}
+use Rattle.log_model.specs.declared.Profile.{Profile}
+use Rattle.log_model.specs.Captured.{pushers_of}
 use Rattle.script_lang.specs.declared.fault.ScriptFault.{ScriptFault as Refusal}
 use Rattle.script_lang.specs.declared.fault.ScriptFault.TheVariants as refusal
 use Rattle.script_lang.specs.declared.script.SessionLine.{SessionLine}
@@ -14,55 +15,71 @@ use Rattle.rtpbin_cli.specs.declared.script.ScriptCause.TheVariants.{Language, U
 
 -- ---- what is built so far
 
--- one session, on its fixed ports
-abbrev pub is_one_session : List SessionLine → Bool
-is_one_session (line ∷ []) = line.session == SESSION && line.rtp == RTP_PORT && line.rtcp == RTCP_PORT
-is_one_session lines = false
+-- the one session, where its two ports differ
+abbrev pub only_session : List SessionLine → Option SessionLine
+only_session (line ∷ []) = if line.rtp == line.rtcp then None else Some line
+only_session lines = None
 
--- the clock rate of the one payload type
-abbrev pub rate_in : List PtLine → Option ℕ
-rate_in (line ∷ []) = if line.pt == PAYLOAD_TYPE then Some line.rate else None
-rate_in lines = None
+-- the one payload type
+abbrev pub only_type : List PtLine → Option PtLine
+only_type (line ∷ []) = Some line
+only_type lines = None
 
--- no requests, each source valid at once, no reports, and neither another time after which sources are removed nor another SSRC of the program
+-- no requests, each source valid at once, and no reports
 abbrev pub are_built : ScriptSettings → Bool
-are_built s = not s.rtx && s.probation == 0 && s.report == 0 && s.timeout == 25000000000 && s.ssrc == OWN_SSRC
+are_built s = not s.rtx && s.probation == 0 && s.report == 0
 
 -- no retransmissions and no timed lines
 abbrev pub is_built : Contents → Bool
-is_built c = is_one_session c.sessions && length c.rtx == 0 && length c.fids == 0 && length c.items == 0 && are_built c.settings
+is_built c = length c.rtx == 0 && length c.fids == 0 && length c.items == 0 && are_built c.settings
 
-abbrev pub settings_with : Contents → ℕ → Settings
-settings_with c rate = record {
+-- the settings of a session's lane with this clock rate
+abbrev pub settings_with : ScriptSettings → ℕ → ℕ → Settings
+settings_with s session rate = record {
   rate = rate;
-  mode = c.settings.mode;
-  latency = c.settings.latency;
-  rtx = c.settings.rtx;
-  rtx_delay = c.settings.rtx_delay;
-  rtx_retry = c.settings.rtx_retry;
-  rtx_max = c.settings.rtx_max;
-  reorder = c.settings.reorder;
-  dropout = c.settings.dropout;
-  misorder = c.settings.misorder;
-  faststart = c.settings.faststart;
-  pushers = 257;
+  mode = s.mode;
+  latency = s.latency;
+  rtx = s.rtx;
+  rtx_delay = s.rtx_delay;
+  rtx_retry = s.rtx_retry;
+  rtx_max = s.rtx_max;
+  reorder = s.reorder;
+  dropout = s.dropout;
+  misorder = s.misorder;
+  faststart = s.faststart;
+  pushers = pushers_of session;
 }
 
-unfoldable pub built_settings : Contents → Option Settings
-built_settings c = if is_built c then option_map (settings_with c) (rate_in c.pts) else None
+abbrev pub profile_with : ScriptSettings → SessionLine → PtLine → Profile
+profile_with s session pt = record {
+  session = session.session;
+  rtp_port = session.rtp;
+  rtcp_port = session.rtcp;
+  payload_type = pt.pt;
+  own_ssrc = s.ssrc;
+  settings = settings_with s session.session pt.rate;
+}
+
+abbrev pub profile_from : ScriptSettings → Option SessionLine → Option PtLine → Option Profile
+profile_from s (Some session) (Some pt) = Some (profile_with s session pt)
+profile_from s session pt = None
+
+-- what a script chooses for its one session, where all that it asks for is built
+unfoldable pub built_profile : Contents → Option Profile
+built_profile c = if is_built c then profile_from c.settings (only_session c.sessions) (only_type c.pts) else None
 
 -- ---- by the bytes
 
-abbrev pub or_unbuilt : Option Settings → Result Settings ScriptFault
-or_unbuilt (Some settings) = Ok settings
+abbrev pub or_unbuilt : Option Profile → Result Profile ScriptFault
+or_unbuilt (Some profile) = Ok profile
 or_unbuilt None = Err (record { line = 0; cause = Unbuilt })
 
 -- The language has a fault for want of memory too, which no bytes have.
-abbrev pub script_from : Result Contents Refusal → Result Settings ScriptFault
-script_from (Ok contents) = or_unbuilt (built_settings contents)
+abbrev pub script_from : Result Contents Refusal → Result Profile ScriptFault
+script_from (Ok contents) = or_unbuilt (built_profile contents)
 script_from (Err (refusal.Bad line cause)) = Err (record { line = line; cause = Language cause })
 script_from (Err refusal.OutOfMemory) = or_unbuilt None
 
--- the settings of a script, or its first fault; line 0 stands for the whole script
-abbrev pub script_of : List ℕ → Result Settings ScriptFault
+-- the profile that a script makes, or its first fault; line 0 stands for the whole script
+abbrev pub script_of : List ℕ → Result Profile ScriptFault
 script_of text = script_from (read_script text)

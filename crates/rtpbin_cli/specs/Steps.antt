@@ -4,7 +4,7 @@ use Rattle.rtp_io.specs.Outside.{Disk, Adds, AddsFront}
 use Rattle.pcap_file.specs.declared.fault.CaptureFault.{CaptureFault}
 use Rattle.pcap_file.specs.declared.fault.CaptureFault.TheVariants as faults
 use Rattle.pcap_file.specs.Capture.{capture_of}
-use Rattle.jitter_model.specs.declared.Settings.{Settings}
+use Rattle.log_model.specs.declared.Profile.{Profile}
 use Rattle.rtpbin_cli.specs.declared.status.Status.{Status}
 use Rattle.rtpbin_cli.specs.declared.status.Status.TheVariants as status
 use Rattle.rtpbin_cli.specs.declared.stop.Stop.{Stop}
@@ -54,15 +54,15 @@ Covers output (Err stop.Usage) before after old new = ⊥
 Covers output (Err (stop.Script fault)) before after old new = ⊥
 
 -- reading a script of these bytes
-abbrev pub ReadsText : Result Settings Stop → List ℕ → Type 0
-ReadsText (Ok settings) text = script_of text ≡ Ok settings
+abbrev pub ReadsText : Result Profile Stop → List ℕ → Type 0
+ReadsText (Ok profile) text = script_of text ≡ Ok profile
 ReadsText (Err (stop.Script fault)) text = script_of text ≡ Err fault
 ReadsText (Err stop.Memory) text = Unit {0}
 ReadsText (Err other) text = ⊥
 
 -- reading the script of this name
-abbrev pub ReadsScript : Result Settings Stop → List ℕ → Disk → Disk → Type 0
-ReadsScript (Ok settings) name before after = IsTrue before.told → script_of (before.contents name) ≡ Ok settings
+abbrev pub ReadsScript : Result Profile Stop → List ℕ → Disk → Disk → Type 0
+ReadsScript (Ok profile) name before after = IsTrue before.told → script_of (before.contents name) ≡ Ok profile
 ReadsScript (Err (stop.Script fault)) name before after = IsTrue before.told → script_of (before.contents name) ≡ Err fault
 ReadsScript (Err stop.Read) name before after = IsTrue before.told → (after.opened ≡ None) ⊎ (after.opened ≡ Some name)
 ReadsScript (Err stop.Memory) name before after = Unit {0}

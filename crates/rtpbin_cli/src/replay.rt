@@ -1,6 +1,6 @@
 //! Replaying a capture, record by record.
 ghost use Rattle.std.specs.Prelude.{◌≡◌, ◌<◌, ◌≤◌, ◌-◌, ◌^◌, IsTrue};
-ghost use Rattle.bin_core.specs.Stages.{IsOneSession};
+ghost use Rattle.log_model.specs.Captured.{IsProfile};
 ghost use Rattle.rtp_io.specs.Outside.{SameDisk};
 ghost use Rattle.log_text.specs.Text.{line_text as text_of};
 ghost use Rattle.rtpbin_cli.specs.Commands.{replay_output, texts_of};
@@ -9,7 +9,7 @@ ghost use Rattle.rtpbin_cli.specs.Steps.{Covers, HasStopCause, Prints};
 use crate::clock::{START, pass};
 use crate::stop::{Stop, stop_of};
 use bin_core::{Bin, BinLine, Lines};
-use jitter_core::Settings;
+use log_model::Profile;
 use log_text::line as line_text;
 use pcap_file::open_capture;
 use rtp_io::{Failed, Files, Pull, Sink, write_piece};
@@ -19,17 +19,17 @@ use std::alloc::Global;
 /// Replays the capture in the open file. Each line is one piece.
 pub fn replay_open<F: Files, O: Sink>(
     alloc: Global,
-    settings: &Settings,
+    profile: &Profile,
     hex: bool,
     files: &mut F,
     out: &mut O,
 ) -> Result<(), Stop>
-    requires settings { IsOneSession settings.now }
+    requires profile { IsProfile profile.now }
     requires files { F.faults files.old < 2 ^ 64 - 1 }
     requires out { O.faults out.old < 2 ^ 64 - 1 }
     ensures same { SameDisk (F.disk files.old) (F.disk files.new) }
     ensures opened { IsTrue (F.disk files.old).told → (F.disk files.new).opened ≡ (F.disk files.old).opened }
-    ensures covers { Covers (replay_output hex settings.now) result (F.disk files.old) (F.disk files.new) (O.written out.old) (O.written out.new) }
+    ensures covers { Covers (replay_output hex profile.now) result (F.disk files.old) (F.disk files.new) (O.written out.old) (O.written out.new) }
     ensures cause { HasStopCause result (F.faults files.old) (F.faults files.new) (O.faults out.old) (O.faults out.new) }
 {
     let mut pull = match Pull::new(alloc) {
@@ -40,7 +40,7 @@ pub fn replay_open<F: Files, O: Sink>(
         Ok(pcap) => pcap,
         Err(fault) => return Err(stop_of(fault)),
     };
-    let mut bin = Bin::new(settings);
+    let mut bin = Bin::new(profile);
     let mut clock = START;
     let mut lines = Lines::new(alloc);
     'records: loop {

@@ -1,13 +1,13 @@
 //! The scripts that a replay takes.
-ghost use Rattle.std.specs.Prelude.{◌≡◌, IfOk, IfSome};
-ghost use Rattle.bin_core.specs.Stages.{IsOneSession};
-ghost use Rattle.rtpbin_cli.specs.Script.{built_settings, is_built as builds, is_one_session as has_one_session, rate_in as rate_from, settings_with as settings_from};
+ghost use Rattle.std.specs.Prelude.{◌≡◌, ◌<◌, IfOk, IfSome};
+ghost use Rattle.log_model.specs.Captured.{IsProfile, pushers_of};
+ghost use Rattle.rtpbin_cli.specs.Script.{built_profile, is_built as builds, only_session as one_session, only_type as one_type, profile_with as profile_from, settings_with as settings_from};
 ghost use Rattle.rtpbin_cli.specs.Steps.{ReadsText};
 
 use crate::stop::Stop;
 use jitter_core::Settings;
-use log_model::{OWN_SSRC, PAYLOAD_TYPE, RTCP_PORT, RTP_PORT, SESSION};
-use script_lang::{PtLine, Script, ScriptFault as Refusal, SessionLine, read};
+use log_model::Profile;
+use script_lang::{PtLine, Script, ScriptFault as Refusal, ScriptSettings, SessionLine, read};
 use std::alloc::Global;
 
 /// What a line of a script has against it.
@@ -26,20 +26,14 @@ pub struct ScriptFault {
     pub cause: ScriptCause,
 }
 
-/// The pushers of a lane as a set of bits: session 0 and the control.
-const SESSION_AND_CONTROL: u16 = 0b1_0000_0001;
-
-/// After which silence a source is removed where the script sets nothing else, in nanoseconds.
-const TIMEOUT: u64 = 25_000_000_000;
-
-/// The settings of the lane that a script makes.
-pub fn settings_in(alloc: Global, text: &[u8]) -> Result<Settings, Stop>
+/// The profile that a script makes.
+pub fn profile_in(alloc: Global, text: &[u8]) -> Result<Profile, Stop>
     ensures after { ReadsText result text.now }
-    ensures valid { IfOk result IsOneSession }
+    ensures valid { IfOk result IsProfile }
 {
     match read(alloc, text) {
-        Ok(script) => match settings_of(&script) {
-            Some(settings) => Ok(settings),
+        Ok(script) => match profile_of(&script) {
+            Some(profile) => Ok(profile),
             None => Err(Stop::Script(ScriptFault {
                 line: 0,
                 cause: ScriptCause::Unbuilt,
@@ -53,60 +47,75 @@ pub fn settings_in(alloc: Global, text: &[u8]) -> Result<Settings, Stop>
     }
 }
 
-// The settings of the lane, where all that the script asks for is built.
-fn settings_of(script: &Script) -> Option<Settings>
-    ensures exact { result ≡ built_settings script.now }
-    ensures valid { IfSome result IsOneSession }
+// What the script chooses for its one session, where all that it asks for is built.
+fn profile_of(script: &Script) -> Option<Profile>
+    ensures exact { result ≡ built_profile script.now }
+    ensures valid { IfSome result IsProfile }
 {
     if !is_built(script) {
         return None;
     }
-    match rate_in(&script.pts) {
-        Some(rate) => Some(settings_with(script, rate)),
+    match only_session(&script.sessions) {
+        Some(session) => match only_type(&script.pts) {
+            Some(pt) => Some(profile_with(&script.settings, session, pt)),
+            None => None,
+        },
         None => None,
     }
 }
 
-// So far one session on its fixed ports is built, without retransmissions and timed lines; each source is
-// valid at once, and there are no reports.
+// So far there are no retransmissions and timed lines; each source is valid at once, and there are no
+// reports.
 fn is_built(script: &Script) -> bool
     ensures { result ≡ builds script.now }
 {
     let settings = &script.settings;
-    is_one_session(&script.sessions)
-        && script.rtx.is_empty()
+    script.rtx.is_empty()
         && script.fids.is_empty()
         && script.items.is_empty()
         && !settings.rtx
         && settings.probation == 0
         && settings.report == 0
-        && settings.timeout == TIMEOUT
-        && settings.ssrc == OWN_SSRC
 }
 
-fn is_one_session(sessions: &[SessionLine]) -> bool
-    ensures { result ≡ has_one_session sessions.now }
+// The session, where it is the only one and its ports differ.
+fn only_session(sessions: &[SessionLine]) -> Option<SessionLine>
+    ensures { result ≡ one_session sessions.now }
 {
     match sessions {
-        [line] => line.session == SESSION && line.rtp == RTP_PORT && line.rtcp == RTCP_PORT,
-        _ => false,
-    }
-}
-
-// The clock rate of the one payload type that is built.
-fn rate_in(pts: &[PtLine]) -> Option<u32>
-    ensures { result ≡ rate_from pts.now }
-{
-    match pts {
-        [line] if line.pt == PAYLOAD_TYPE => Some(line.rate),
+        [line] if line.rtp != line.rtcp => Some(*line),
         _ => None,
     }
 }
 
-fn settings_with(script: &Script, rate: u32) -> Settings
-    ensures { result ≡ settings_from script.now rate }
+// The payload type, where it is the only one.
+fn only_type(pts: &[PtLine]) -> Option<PtLine>
+    ensures { result ≡ one_type pts.now }
 {
-    let settings = &script.settings;
+    match pts {
+        [line] => Some(*line),
+        _ => None,
+    }
+}
+
+fn profile_with(settings: &ScriptSettings, session: SessionLine, pt: PtLine) -> Profile
+    requires { session.session < 8 }
+    ensures { result ≡ profile_from settings.now session pt }
+{
+    Profile {
+        session: session.session,
+        rtp_port: session.rtp,
+        rtcp_port: session.rtcp,
+        payload_type: pt.pt,
+        own_ssrc: settings.ssrc,
+        settings: settings_with(settings, session.session, pt.rate),
+    }
+}
+
+fn settings_with(settings: &ScriptSettings, session: u8, rate: u32) -> Settings
+    requires { session < 8 }
+    ensures { result ≡ settings_from settings.now session rate }
+{
     Settings {
         rate,
         mode: settings.mode,
@@ -119,6 +128,23 @@ fn settings_with(script: &Script, rate: u32) -> Settings
         dropout: settings.dropout,
         misorder: settings.misorder,
         faststart: settings.faststart,
-        pushers: SESSION_AND_CONTROL,
+        pushers: pushers(session),
+    }
+}
+
+// The pushers of a session's lane as a set of bits: the session and the script.
+fn pushers(session: u8) -> u16
+    requires { session < 8 }
+    ensures { result ≡ pushers_of session }
+{
+    match session {
+        0 => 0x101,
+        1 => 0x102,
+        2 => 0x104,
+        3 => 0x108,
+        4 => 0x110,
+        5 => 0x120,
+        6 => 0x140,
+        _ => 0x180,
     }
 }

@@ -1,7 +1,12 @@
-use Rattle.std.proofs.Common.{subst, sym}
+use Rattle.std.proofs.Common.{ℕ, ap, subst, sym, ◌∙◌}
+use Rattle.jitter_model.specs.History.{is_pusher}
+use Rattle.log_model.proofs.Running.{session_pushes}
 use Rattle.bin_core.specs.Totals.{with_push, IsCounted}
 use Rattle.bin_core.proofs.Totals.{has_room, push_counted}
 use Rattle.bin_core.proofs.counted.push_arrival.Goals as goal
+
+pub push-answer-requires-clause-pusher : goal.push-answer-requires-clause-pusher
+push-answer-requires-clause-pusher c = ap (λ (n : ℕ). is_pusher n c.args.arrival.pusher) c.requires.pushers ∙ session_pushes c.args.arrival.pusher c.requires.session
 
 pub count_push-lane-requires : goal.count_push-lane-requires
 count_push-lane-requires c =

@@ -1,14 +1,22 @@
-use Rattle.std.proofs.Common.{refl}
+use Rattle.std.proofs.Common.{ℕ, refl, ap, ◌∙◌}
+use Rattle.jitter_model.specs.History.{is_pusher}
 use Rattle.jitter_model.specs.declared.Entry.TheVariants.{Ends}
-use Rattle.log_model.specs.declared.TheConstants.{SESSION, CONTROL}
+use Rattle.log_model.specs.declared.TheConstants.{CONTROL}
+use Rattle.log_model.proofs.Running.{session_pushes, control_pushes}
 use Rattle.bin_core.proofs.Totals.{end_counted}
 use Rattle.bin_core.proofs.Entering.{entered}
 use Rattle.bin_core.proofs.Outcomes.{on_ok}
 use Rattle.bin_core.proofs.lane.end.Goals as goal
 
+pub end-requires : goal.end-requires
+end-requires c = ap (λ (n : ℕ). is_pusher n c.args.session) c.requires.pushers ∙ session_pushes c.args.session c.requires.session
+
+pub end-requires-2 : goal.end-requires-2
+end-requires-2 c = ap (λ (n : ℕ). is_pusher n CONTROL) (ap (λ s. s.pushers) (c.settle.ensures.settings ∙ c.end.ensures.settings) ∙ c.requires.pushers) ∙ control_pushes c.args.session c.requires.session
+
 pub invariant_of-lane : goal.invariant_of-lane
 invariant_of-lane c =
-    record { counted = end_counted c.args.lane.now.buffer c.end.new.self c.args.lane.now.counts SESSION c.end.ensures.stands c.args.lane.now.counted }
+    record { counted = end_counted c.args.lane.now.buffer c.end.new.self c.args.lane.now.counts c.args.session c.end.ensures.stands c.args.lane.now.counted }
 
 pub invariant_of-lane-2 : goal.invariant_of-lane-2
 invariant_of-lane-2 c =
@@ -19,6 +27,6 @@ returns-clause-stands c =
     on_ok c.settle-2.result _ _
     (λ settles. λ s base n tl h. settles s base n _
     (entered s base c.args.time n c.settle.new.lane _ c.settle.new.lines (Ends CONTROL) _
-    (c.in_ok-settle.ensures.stands s base n _ (entered s base c.args.time n c.args.lane.now _ c.args.lines.now (Ends SESSION) tl h refl refl c.end.ensures.settings c.end.ensures.stands refl)).tells
+    (c.in_ok-settle.ensures.stands s base n _ (entered s base c.args.time n c.args.lane.now _ c.args.lines.now (Ends c.args.session) tl h refl refl c.end.ensures.settings c.end.ensures.stands refl)).tells
     refl refl c.end-2.ensures.settings c.end-2.ensures.stands refl))
     c.settle-2.ensures.stands

@@ -1,10 +1,12 @@
+use Rattle.std.proofs.Common.{ℕ, ap, subst}
+use Rattle.log_model.specs.declared.Profile.{Profile}
 use Rattle.log_model.specs.Events.{lines}
 use Rattle.log_model.specs.Front.{source_of}
 use Rattle.log_model.specs.Log.{timeline}
 use Rattle.log_model.specs.declared.TheConstants.{END_OF_TIME}
-use Rattle.log_model.specs.Waking.{served}
+use Rattle.log_model.specs.Waking.{served, all_ended}
 use Rattle.bin_core.specs.Lanes.{Base}
-use Rattle.bin_core.specs.Staging.{LanesServed, lanes_of}
+use Rattle.bin_core.specs.Staging.{LanesTell, LanesServed, lanes_of}
 use Rattle.bin_core.proofs.Outcomes.{on_ok}
 use Rattle.bin_core.proofs.Staging.{begin, finished}
 use Rattle.bin_core.proofs.stage.finish.Goals as goal
@@ -14,8 +16,9 @@ returns-clause-stands c =
     on_ok c.push.result _ _
     (λ pushed. λ s rs st.
     let base : Base = record { before = c.args.lines.now; log = lines (timeline s rs) } in
-    let before : LanesServed s base c.serve_wakes.new.lane (source_of rs) c.in_ok-last.last c.serve_wakes.new.lines (served s (lanes_of (source_of rs)) END_OF_TIME (timeline s rs)) =
-    c.in_ok-last.ensures.stands s base (source_of rs) (timeline s rs) (begin s c.args.stage.now.lane (source_of rs) c.args.lines.now (timeline s rs) st.lanes) st.time in
+    let before : LanesServed s.settings base c.serve_wakes.new.lane (source_of s rs) c.in_ok-last.last c.serve_wakes.new.lines (served s.settings (lanes_of (source_of s rs)) END_OF_TIME (timeline s rs)) =
+    c.in_ok-last.ensures.stands s.settings base (source_of s rs) (timeline s rs) (begin s.settings c.args.stage.now.lane (source_of s rs) c.args.lines.now (timeline s rs) st.lanes) st.time in
     finished s rs c.args.stage.now c.end_lane.new.lane c.in_ok-last.last c.args.lines.now c.end_lane.new.lines c.push.new.self c.done_line.result st before.last_is
-    (c.in_ok-end_lane.ensures.stands s base (source_of rs) _ before.tells) c.done_line.ensures pushed)
+    (subst (λ (m : ℕ). LanesTell s.settings base c.end_lane.new.lane (source_of s rs) c.end_lane.new.lines (all_ended s.settings m c.in_ok-last.last (lanes_of (source_of s rs)) (served s.settings (lanes_of (source_of s rs)) END_OF_TIME (timeline s rs)))) (ap (λ (x : Profile). x.session) st.profile)
+    (c.in_ok-end_lane.ensures.stands s.settings base (source_of s rs) _ before.tells)) c.done_line.ensures pushed)
     c.push.ensures.ok

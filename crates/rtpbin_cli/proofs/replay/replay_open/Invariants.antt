@@ -8,7 +8,7 @@ use Rattle.rtpbin_cli.proofs.replay.replay_open.Given as goal
 abbrev pub invariant-records : goal.invariant-records
 invariant-records g l =
     record {
-      progress : Progress (replay_output l.fn.hex l.settings) (Took l.settings l.bin l.clock) (g.F.Files.disk l.fn.files) l.pcap l.pull (g.F.Files.disk l.files) (g.O.Sink.written l.fn.out) (g.O.Sink.written l.out);
+      progress : Progress (replay_output l.fn.hex l.profile) (Took l.profile l.bin l.clock) (g.F.Files.disk l.fn.files) l.pcap l.pull (g.F.Files.disk l.files) (g.O.Sink.written l.fn.out) (g.O.Sink.written l.out);
       files : g.F.Files.faults l.files ≡ g.F.Files.faults l.fn.files;
       out : g.O.Sink.faults l.out ≡ g.O.Sink.faults l.fn.out;
       count : records_of l.bin ≡ l.pcap.count;
