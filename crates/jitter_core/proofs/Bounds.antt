@@ -22,8 +22,8 @@ use Rattle.jitter_core.specs.Parts.{Placed, Clocked, Marked, Requested}
 use Rattle.jitter_core.specs.Steps.{IsTimely, IsBounded}
 use Rattle.jitter_core.specs.Stands.{live, live_next, live_out}
 use Rattle.jitter_core.proofs.Rooted.{IsRooted, rooted, opened_rooted, some_estimate, few_heights, length-skew}
-use Rattle.jitter_core.proofs.Kept.{marks_bounded, two_to, marks_to, first_small, kept_room}
-use Rattle.jitter_core.proofs.Firsts.{peaks_bounded, peaks_room, peaks_reach}
+use Rattle.jitter_core.proofs.Kept.{marks_bounded, two_to, marks_to, first_small, kept_order, kept_room}
+use Rattle.jitter_core.proofs.Firsts.{peaks_bounded, peaks_order, peaks_room, peaks_reach}
 use Rattle.jitter_core.proofs.Owed.{IsGiven, all_given}
 
 -- what is known of the accepted packets of a segment
@@ -193,8 +193,10 @@ segment_bounded s ps o out served timely p c m q g =
       started = λ e. ap is_some c.stands.estimated ∙ some_estimate s.skew.rate s.skew.mode ps g.rooted (sym (ap is_some p.top_is) ∙ e);
       few = omega (arith, c.stands.counts, length-skew (heights ps), few_heights ps, g.few);
       heights = rw m.marks_are (marks_bounded _ _ (top_under _ _ _ are g.few) (two_to _ o _ (marks_to s.settings ps)));
+      falling = rw m.marks_are (kept_order s.settings o ps);
       room = rw m.marks_are (kept_room s.settings o ps g.window);
       stamps = rw q.peaks_are (peaks_bounded o ps g.numbered);
+      rising = rw q.peaks_are (peaks_order o ps g.numbered);
       peaks_room = rw q.peaks_are (peaks_room o ps g.numbered g.window);
       places = q.places;
       reach = rw p.next_is (peaks_reach o s.span.top ps s.peaks q.peaks_are p.top_is);

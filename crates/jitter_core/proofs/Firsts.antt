@@ -1,6 +1,6 @@
 -- The peaks that are kept serve as well as all accepted packets, and there is room for them.
 use Rattle.std.proofs.Common.{ℕ, zero, suc, ◌≡◌, ◌-◌, ◌≤◌, ◌<◌, ◌^◌, true, false, refl, sym, ap, ◌∙◌, List, [], ◌∷◌, ◌++◌, length, Option, None, Some, arith, max}
-use Rattle.std.specs.Prelude.{⊤, is_some, nat_le, unwrap_or, if◌then◌else◌}
+use Rattle.std.specs.Prelude.{⊤, is_some, nat_le, slice_index_or, unwrap_or, if◌then◌else◌}
 use Rattle.std.proofs.lemmas.Grind.{common_steps}
 use Rattle.jitter_model.specs.Accepted.{Taken, top, least}
 use Rattle.jitter_model.specs.Times.{is_above}
@@ -8,7 +8,7 @@ use Rattle.jitter_model.specs.Requests.{or_else, first_from}
 use Rattle.jitter_model.proofs.Numbered.{IsNumbered}
 use Rattle.jitter_model.proofs.Window.{InWindow}
 use Rattle.jitter_core.specs.declared.peaks.Peak.{Peak}
-use Rattle.jitter_core.specs.Peaks.{peaks, above, above_next, with_peak, stamp_from, ArePeaksBounded}
+use Rattle.jitter_core.specs.Peaks.{peaks, above, above_next, with_peak, stamp_from, ArePeaksBounded, ArePeaksRising}
 use Rattle.jitter_core.specs.Steps.{IsPast}
 use Rattle.jitter_core.proofs.Kept.{IsBelow}
 
@@ -196,6 +196,33 @@ above_few k l t (p ∷ ps) h =
       | true ↦ λ _. above_few k p.number t ps h.1
       | false ↦ λ e. let from : k < p.number = grind (arith, common_steps) in omega (arith, all_few p.number t ps h.1, rising_to p.number t ps h.1)
     ] refl
+
+above_rising : (k l t : ℕ) (ps : List Peak) → IsRising l t ps → IsRising l t (above k ps)
+above_rising k l t [] h = h
+above_rising k l t (p ∷ ps) h =
+    elim (nat_le p.number k) as (λ b. IsRising l t (if b then above k ps else p ∷ ps)) [
+      | true ↦ rising_from l p.number t (above k ps) (omega (arith, h.0)) (above_rising k p.number t ps h.1)
+      | false ↦ h
+    ]
+
+next_rising : (o : Option ℕ) (l t : ℕ) (ps : List Peak) → IsRising l t ps → IsRising l t (above_next o ps)
+next_rising None l t ps h = h
+next_rising (Some k) l t ps h = above_rising k l t ps h
+
+all_over : (l t : ℕ) (ps : List Peak) → IsRising l t ps → (i : ℕ) (d : Peak) → i < length ps → l < (slice_index_or ps i d).number
+all_over l t [] h i d lt = absurd (omega arith)
+all_over l t (p ∷ ps) h zero d lt = h.0
+all_over l t (p ∷ ps) h (suc i) d lt = omega (arith, h.0, all_over p.number t ps h.1 i d (omega arith))
+
+rising_by_place : (l t : ℕ) (ps : List Peak) → IsRising l t ps → ArePeaksRising ps
+rising_by_place l t [] h i j d lt within = absurd (omega arith)
+rising_by_place l t (p ∷ ps) h i zero d lt within = absurd (omega arith)
+rising_by_place l t (p ∷ ps) h zero (suc j) d lt within = all_over p.number t ps h.1 j d (omega arith)
+rising_by_place l t (p ∷ ps) h (suc i) (suc j) d lt within = rising_by_place p.number t ps h.1 i j d (omega arith) (omega arith)
+
+-- each of the kept peaks is less than those after it
+pub peaks_order : (o : Option ℕ) (ps : List Taken) → IsNumbered ps → ArePeaksRising (above_next o (peaks ps))
+peaks_order o ps n = rising_by_place _ _ (above_next o (peaks ps)) (next_rising o _ _ (peaks ps) (rising ps n))
 
 -- there is room for the kept peaks of a window
 pub peaks_room : (o : Option ℕ) (ps : List Taken) → IsNumbered ps → InWindow (top ps) (least ps) o → length (above_next o (peaks ps)) ≤ 8192

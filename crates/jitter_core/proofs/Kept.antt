@@ -1,6 +1,6 @@
 -- The heights that are kept serve as well as all of them, and there is room for them.
 use Rattle.std.proofs.Common.{ℕ, zero, suc, ◌≡◌, ◌+◌, ◌-◌, ◌≤◌, ◌<◌, ◌^◌, true, false, refl, ap, ◌∙◌, List, [], ◌∷◌, Option, None, Some, length, arith, max, min}
-use Rattle.std.specs.Prelude.{⊤, ℤ, pos, negsuc, unwrap_or, nat_le, if◌then◌else◌}
+use Rattle.std.specs.Prelude.{⊤, ℤ, pos, negsuc, unwrap_or, nat_le, slice_index_or, if◌then◌else◌}
 use Rattle.std.proofs.lemmas.Grind.{common_steps}
 use Rattle.rtp_units.specs.Numbers.{hold}
 use Rattle.skew_model.specs.Skew.{Estimate, estimate_after, height_time}
@@ -9,7 +9,7 @@ use Rattle.jitter_model.specs.declared.Mark.{Mark}
 use Rattle.jitter_model.specs.Accepted.{Taken, top, least}
 use Rattle.jitter_model.specs.Times.{is_above, is_height, heights, is_next_height, height_after, estimate_of, time_of, pts_after, marks, first_pts, expected, expected_below, between}
 use Rattle.jitter_model.proofs.Window.{InWindow}
-use Rattle.jitter_core.specs.Marks.{kept, kept_two, before_another, from_mark, is_next_mark, AreMarksBounded}
+use Rattle.jitter_core.specs.Marks.{kept, kept_two, before_another, from_mark, is_next_mark, AreMarksBounded, AreMarksFalling}
 
 -- ---- expected times by the kept heights
 
@@ -180,6 +180,37 @@ falling s (p ∷ ps) =
       | true ↦ λ e. (omega arith, omega arith, no_marks s l ps p (height_above ps p e) rest)
       | false ↦ λ e. higher l _ _ (marks s ps) (omega arith) rest
     ] refl
+
+from_mark_falling : (l t : ℕ) (o : Option ℕ) (m : Mark) (ms : List Mark) → m.number < t → l ≤ m.number → AreFalling l m.number ms → AreFalling l t (from_mark o m ms)
+from_mark_falling l t None m ms a b h = (a, b, h)
+from_mark_falling l t (Some n) m ms a b h =
+    elim (nat_le m.number n) as (λ x. AreFalling l t (if x then m ∷ [] else m ∷ ms)) [
+      | true ↦ (a, b, tt)
+      | false ↦ (a, b, h)
+    ]
+
+kept_falling : (l t : ℕ) (o : Option ℕ) (ms : List Mark) → AreFalling l t ms → AreFalling l t (kept o ms)
+kept_falling l t o [] h = tt
+kept_falling l t o (m ∷ ms) h = from_mark_falling l t o m (kept o ms) h.0 h.1 (kept_falling l m.number o ms h.2)
+
+two_falling : (l t : ℕ) (o : Option ℕ) (ms : List Mark) → AreFalling l t ms → AreFalling l t (kept_two o ms)
+two_falling l t o [] h = tt
+two_falling l t o (m ∷ ms) h = (h.0, h.1, kept_falling l m.number o ms h.2)
+
+all_under : (l t : ℕ) (ms : List Mark) → AreFalling l t ms → (i : ℕ) (d : Mark) → i < length ms → (slice_index_or ms i d).number < t
+all_under l t [] h i d lt = absurd (omega arith)
+all_under l t (m ∷ ms) h zero d lt = h.0
+all_under l t (m ∷ ms) h (suc i) d lt = omega (arith, h.0, all_under l m.number ms h.2 i d (omega arith))
+
+falling_by_place : (l t : ℕ) (ms : List Mark) → AreFalling l t ms → AreMarksFalling ms
+falling_by_place l t [] h i j d lt within = absurd (omega arith)
+falling_by_place l t (m ∷ ms) h i zero d lt within = absurd (omega arith)
+falling_by_place l t (m ∷ ms) h zero (suc j) d lt within = all_under l m.number ms h.2 j d (omega arith)
+falling_by_place l t (m ∷ ms) h (suc i) (suc j) d lt within = falling_by_place l m.number ms h.2 i j d (omega arith) (omega arith)
+
+-- each of the kept heights is greater than those after it
+pub kept_order : (s : Settings) (o : Option ℕ) (ps : List Taken) → AreMarksFalling (kept_two o (marks s ps))
+kept_order s o ps = falling_by_place _ _ (kept_two o (marks s ps)) (two_falling _ _ o (marks s ps) (falling s ps))
 
 -- down to k there are at most t - k
 kept_few : (k l t : ℕ) (ms : List Mark) → AreFalling l t ms → length (kept (Some k) ms) ≤ (t - (k + 1)) + 1

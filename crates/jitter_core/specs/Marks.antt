@@ -45,6 +45,10 @@ abbrev pub expected_after : Option Mark → List Mark → ℕ → ℕ
 expected_after None ms n = expected ms n
 expected_after (Some b) ms n = expected_below b ms n
 
+-- heights of which each is greater than those after it
+abbrev pub AreMarksFalling : List Mark → Type 0
+AreMarksFalling ms = (i j : ℕ) (d : Mark) → i < j → j < length ms → (slice_index_or ms j d).number < (slice_index_or ms i d).number
+
 -- heights with times below 2^63 and numbers up to 2^62
 abbrev pub AreMarksBounded : List Mark → Type 0
 AreMarksBounded ms = (i : ℕ) (d : Mark) → i < length ms → (slice_index_or ms i d).pts < 2 ^ 63 × (slice_index_or ms i d).number ≤ 2 ^ 62

@@ -32,6 +32,10 @@ stamp_from (p ∷ ps) m = if nat_le m p.number then Some p.stamp else stamp_from
 abbrev pub ArePeaksBounded : List Peak → Type 0
 ArePeaksBounded ps = (i : ℕ) (d : Peak) → i < length ps → (slice_index_or ps i d).stamp < 2 ^ 63
 
+-- peaks of which each is less than those after it
+abbrev pub ArePeaksRising : List Peak → Type 0
+ArePeaksRising ps = (i j : ℕ) (d : Peak) → i < j → j < length ps → (slice_index_or ps i d).number < (slice_index_or ps j d).number
+
 -- whether the first of these isn't above a number
 abbrev pub starts_past : ℕ → List Peak → Bool
 starts_past n [] = false

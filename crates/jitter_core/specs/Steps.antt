@@ -13,8 +13,8 @@ use Rattle.jitter_model.specs.Times.{is_above, time_of}
 use Rattle.jitter_core.specs.declared.state.Span.{Span}
 use Rattle.jitter_core.specs.declared.state.State.{State}
 use Rattle.jitter_core.specs.Asides.{newest_first}
-use Rattle.jitter_core.specs.Marks.{AreMarksBounded, with_mark, is_next_mark}
-use Rattle.jitter_core.specs.Peaks.{ArePeaksBounded, with_peak, stamp_from}
+use Rattle.jitter_core.specs.Marks.{AreMarksBounded, AreMarksFalling, with_mark, is_next_mark}
+use Rattle.jitter_core.specs.Peaks.{ArePeaksBounded, ArePeaksRising, with_peak, stamp_from}
 
 -- the lowest number that is still to be given out, or that comes
 abbrev pub lowest : Option ℕ → Option ℕ → ℕ → ℕ
@@ -57,8 +57,10 @@ pub record IsBounded (s : State) : Type 0 where
   pub started : is_some s.span.top ≡ true → IsStarted s.skew
   pub few : s.skew.heights < 2 ^ 31
   pub heights : AreMarksBounded s.heights
+  pub falling : AreMarksFalling s.heights
   pub room : length s.heights ≤ 8192
   pub stamps : ArePeaksBounded s.peaks
+  pub rising : ArePeaksRising s.peaks
   pub peaks_room : length s.peaks ≤ 8192
   pub places : length s.served ≡ 16384
   pub reach : (m : ℕ) → IsPast s.span.next m → is_some s.span.top ≡ true → m ≤ unwrap_or s.span.top 0 → is_some (stamp_from s.peaks m) ≡ true

@@ -6,7 +6,8 @@ ghost use Rattle.jitter_model.specs.Times.{expected, between};
 ghost use Rattle.jitter_model.specs.Requests.{spacing};
 ghost use Rattle.rtp_units.specs.Numbers.{hold};
 ghost use Rattle.std.specs.Option.{ForSome};
-ghost use Rattle.jitter_core.specs.Marks.{kept_two, before_another, is_next_mark, next_time, AreMarksBounded};
+ghost use Rattle.std.specs.List.{AllWithin};
+ghost use Rattle.jitter_core.specs.Marks.{kept_two, before_another, is_next_mark, next_time, AreMarksBounded, AreMarksFalling};
 
 use jitter_model::Mark;
 use rtp_units::{OutOfMemory, held_to_time};
@@ -83,27 +84,35 @@ fn time_between(a: &Mark, b: &Mark, n: u64) -> u64
     moved_by(a.pts, part)
 }
 
+/// How many heights are above a number. These are the first ones.
+fn count_above(marks: &VecDeque<Mark>, n: u64) -> usize
+    requires { AreMarksFalling marks.now.items }
+    ensures most { result ≤ deque_len marks.now }
+    ensures above { AllWithin (λ m. n < m.number) marks.now.items 0 result }
+    ensures others { AllWithin (λ m. m.number ≤ n) marks.now.items result (deque_len marks.now) }
+{
+    marks.partition_point(|mark| n < mark.number)
+}
+
 /// The expected time of a number by these heights.
 fn expected_by(marks: &VecDeque<Mark>, n: u64) -> u64
-    requires { AreMarksBounded marks.now.items }
+    requires bounded { AreMarksBounded marks.now.items }
+    requires falling { AreMarksFalling marks.now.items }
     ensures value { result ≡ expected marks.now.items n }
     ensures small { result < 2 ^ 63 }
 {
-    let mut above: Option<Mark> = None;
-    for i in 0..marks.len() {
-        let mark = marks[i];
-        if mark.number <= n {
-            return match above {
-                None => mark.pts,
-                Some(above) => time_between(&mark, &above, n),
-            };
-        }
-        above = Some(mark);
+    if marks.is_empty() {
+        return 0;
     }
-    match above {
-        None => 0,
-        Some(above) => above.pts,
+    let above = count_above(marks, n);
+    if above == 0 {
+        return marks[0].pts;
     }
+    let next = marks[above - 1];
+    if above == marks.len() {
+        return next.pts;
+    }
+    time_between(&marks[above], &next, n)
 }
 
 /// The time from one number to the next between two neighbouring heights, cut towards zero.
@@ -149,16 +158,14 @@ fn cut_to(marks: &mut VecDeque<Mark>, next: u64)
     }
 }
 
-/// Drops the heights that no number from `next` on needs, but for the last two.
+/// Drops the heights that no number from `next` on needs, but for the last two. These are the least ones.
 fn prune_to(marks: &mut VecDeque<Mark>, next: u64)
+    requires { AreMarksFalling marks.old.items }
     ensures items { marks.new.items ≡ kept_two (Some next) marks.old.items }
     ensures capacity { deque_capacity marks.new ≡ deque_capacity marks.old }
 {
-    for i in 1..marks.len() {
-        if marks[i].number <= next {
-            marks.truncate(i + 1);
-            return;
-        }
+    while 2 < marks.len() && marks[marks.len() - 2].number <= next {
+        marks.pop_back();
     }
 }
 
@@ -196,7 +203,8 @@ impl Heights {
 
     /// The expected time of a number.
     pub fn expected(&self, n: u64) -> u64
-        requires { AreMarksBounded self.now }
+        requires bounded { AreMarksBounded self.now }
+        requires falling { AreMarksFalling self.now }
         ensures value { result ≡ expected self.now n }
         ensures small { result < 2 ^ 63 }
     {
@@ -214,6 +222,7 @@ impl Heights {
 
     /// Drops the heights that no number from `next` on needs, but for the last two.
     pub fn prune(&mut self, next: u64)
+        requires { AreMarksFalling self.old }
         ensures { self.new ≡ kept_two (Some next) self.old }
     {
         prune_to(&mut self.marks, next);

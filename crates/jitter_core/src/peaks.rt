@@ -1,9 +1,10 @@
 //! The peaks of a segment, and which packet came first from a number on.
 
 ghost use Rattle.std.specs.Prelude.{◌≡◌, ◌≤◌, ◌<◌, ◌^◌, ◌++◌, [], ◌∷◌, length, IfOk};
-ghost use Rattle.std.specs.VecDeque.{deque_capacity};
+ghost use Rattle.std.specs.VecDeque.{deque_len, deque_capacity};
+ghost use Rattle.std.specs.List.{AllWithin};
 ghost use Rattle.std.specs.Option.{ForSome};
-ghost use Rattle.jitter_core.specs.Peaks.{above, above_next, stamp_from, starts_past, ArePeaksBounded};
+ghost use Rattle.jitter_core.specs.Peaks.{above, above_next, stamp_from, starts_past, ArePeaksBounded, ArePeaksRising};
 
 use rtp_units::OutOfMemory;
 use std::alloc::Global;
@@ -58,19 +59,29 @@ fn drop_to(peaks: &mut VecDeque<Peak>, number: u64)
     }
 }
 
+/// How many are below a number. These are the first ones.
+fn count_below(peaks: &VecDeque<Peak>, number: u64) -> usize
+    requires { ArePeaksRising peaks.now.items }
+    ensures most { result ≤ deque_len peaks.now }
+    ensures below { AllWithin (λ p. p.number < number) peaks.now.items 0 result }
+    ensures others { AllWithin (λ p. number ≤ p.number) peaks.now.items result (deque_len peaks.now) }
+{
+    peaks.partition_point(|peak| peak.number < number)
+}
+
 /// The stamp of the first one whose number is at least `number`.
 fn stamp_of_first(peaks: &VecDeque<Peak>, number: u64) -> Option<u64>
-    requires { ArePeaksBounded peaks.now.items }
+    requires bounded { ArePeaksBounded peaks.now.items }
+    requires rising { ArePeaksRising peaks.now.items }
     ensures value { result ≡ stamp_from peaks.now.items number }
     ensures small { ForSome result (λ t. t < 2 ^ 63) }
 {
-    for i in 0..peaks.len() {
-        let peak = peaks[i];
-        if number <= peak.number {
-            return Some(peak.stamp);
-        }
+    let below = count_below(peaks, number);
+    if below == peaks.len() {
+        None
+    } else {
+        Some(peaks[below].stamp)
     }
-    None
 }
 
 impl Peaks {
@@ -103,7 +114,8 @@ impl Peaks {
 
     /// The stamp of the first packet that was accepted with a number from `number` on.
     pub fn first_from(&self, number: u64) -> Option<u64>
-        requires { ArePeaksBounded self.now }
+        requires bounded { ArePeaksBounded self.now }
+        requires rising { ArePeaksRising self.now }
         ensures value { result ≡ stamp_from self.now number }
         ensures small { ForSome result (λ t. t < 2 ^ 63) }
     {
