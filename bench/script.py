@@ -3,8 +3,9 @@
 
 usage: bench/script.py PROGRAM
 
-The capture has no records, so nearly all of the time goes to the script. A script that asks for what is
-not built yet is read whole and refused then, so it serves as well. The time for a line should not
+The capture has no records, so nearly all of the time goes to the script. Its timed lines are replayed
+too, with no lane that they could come to. A script that asks for what is not built yet is read whole and
+refused then, so it serves as well. The time for a line should not
 rise with the count of lines: no test of a line costs work that grows with the lines before it. A text of
 1,048,576 bytes has room for 95,000 timed lines of eleven bytes. The script with pairs and types has all
 that may stand in it: 8 sessions, a payload type for each of their numbers, and 64 pairs.

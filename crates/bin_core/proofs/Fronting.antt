@@ -1,5 +1,5 @@
 -- What a record brings comes to the lane.
-use Rattle.std.proofs.Common.{ℕ, ◌≡◌, ◌+◌, ◌≤◌, Bool, true, false, refl, sym, ap, subst, ◌∙◌, List, [], ◌∷◌, ◌++◌, Option, None, Some, length, arith, max}
+use Rattle.std.proofs.Common.{ℕ, ◌≡◌, ◌+◌, Bool, true, false, refl, sym, ap, subst, ◌∙◌, List, [], ◌∷◌, ◌++◌, Option, None, Some, length, arith}
 use Rattle.std.specs.Prelude.{bytes_eq, if◌then◌else◌}
 use Rattle.std.proofs.lemmas.Grind.{common_steps}
 use Rattle.std.proofs.lemmas.Slice.Eq.{bytes_eq-Decides}
@@ -11,22 +11,19 @@ use Rattle.timeline.specs.declared.line.Word.{Word}
 use Rattle.timeline.specs.declared.line.Word.TheVariants as word
 use Rattle.log_model.specs.declared.Profile.{Profile}
 use Rattle.log_model.specs.declared.Source.{Source}
+use Rattle.log_model.specs.declared.Standing.{Standing}
 use Rattle.log_model.specs.declared.Heard.{Heard}
 use Rattle.log_model.specs.declared.Heard.TheVariants as heard
 use Rattle.log_model.specs.Times.{Timed}
-use Rattle.log_model.specs.Front.{Brought, heard_of, sender, first_known, source_of, lane_count, is_same, is_source, opening, brought, brings}
-use Rattle.log_model.specs.Events.{Timeline, Told, latest, lines}
-use Rattle.log_model.specs.Waking.{ticked, pushed, arrival_at, delivered, served}
-use Rattle.log_model.specs.Log.{all_told, with_brought, timeline}
-use Rattle.log_model.proofs.Serving.{served_latest}
-use Rattle.log_model.proofs.Turning.{ticked_latest}
+use Rattle.log_model.specs.Front.{Brought, heard_of, sender, first_known, source_of, is_same, is_source, opening, brought, brings}
+use Rattle.log_model.specs.Events.{Timeline, Told}
+use Rattle.log_model.specs.Waking.{begun, delivered}
+use Rattle.log_model.specs.Log.{all_told, with_brought}
 use Rattle.bin_core.specs.declared.counted.Lane.{Lane}
-use Rattle.bin_core.specs.declared.stage.Stage.{Stage}
-use Rattle.bin_core.specs.Lanes.{Base, Adds, LaneTells, LaneRests}
-use Rattle.bin_core.specs.Bins.{StandsFor}
-use Rattle.bin_core.specs.Staging.{given, TellsNoLane, TellsLane, LanesTell, StageTakes, is_of}
+use Rattle.bin_core.specs.Lanes.{Base, LaneTells, LaneRests}
+use Rattle.bin_core.specs.Staging.{given, TellsNoLane, TellsLane, LanesTell, is_of}
 use Rattle.bin_core.proofs.Tallying.{Sums}
-use Rattle.bin_core.proofs.Staging.{told_tells, stay, adds_of}
+use Rattle.bin_core.proofs.Staging.{told_tells}
 
 -- ---- sources
 
@@ -41,179 +38,122 @@ none_after (Some x) = refl
 
 -- the test of the lane is that of the first packet's source
 is_of_known : (s : Settings) (base : Base) (o : Option Lane) (kept : Option Source) (source : Source) (told : List BinLine) (tl : Timeline) → LanesTell s base o kept told tl → is_source (first_known kept (Some source)) source ≡ is_of o source
-is_of_known s base None kept source told tl h = ap (λ (k : Option Source). is_source (first_known k (Some source)) source) h.none.source_is ∙ same-refl source
-is_of_known s base (Some l) kept source told tl h = ap (λ (k : Option Source). is_source (first_known k (Some source)) source) h.source_is
+is_of_known s base None kept source told tl h = ap (λ (from : Option Source). is_source (first_known from (Some source)) source) h.none.source_is ∙ same-refl source
+is_of_known s base (Some l) kept source told tl h = ap (λ (from : Option Source). is_source (first_known from (Some source)) source) h.source_is
 
 other_known : (s : Settings) (base : Base) (o : Option Lane) (kept : Option Source) (source : Source) (told : List BinLine) (tl : Timeline) → LanesTell s base o kept told tl → is_of o source ≡ false → first_known kept (Some source) ≡ kept
 other_known s base None kept source told tl h e = cc
-other_known s base (Some l) kept source told tl h e = ap (λ (k : Option Source). first_known k (Some source)) h.source_is ∙ sym h.source_is
+other_known s base (Some l) kept source told tl h e = ap (λ (from : Option Source). first_known from (Some source)) h.source_is ∙ sym h.source_is
 
 -- ---- records that tell one line
 
 abbrev only : BinLine → Brought
-only x = record { lines = x ∷ []; delivery = None }
+only x = record { lines = x ∷ []; makes = false; delivery = None }
 
 line_tells :
-    (s : Profile) (base : Base) (o : Option Lane) (older : List Timed) (r : Timed) (t : ℕ) (x : BinLine) (told more : List BinLine) (tl : Timeline)
+    (s : Profile) (k : Standing) (base : Base) (o : Option Lane) (older : List Timed) (r : Timed) (t : ℕ) (x : BinLine) (told more : List BinLine) (tl : Timeline)
     → t ≡ r.time
     → source_of s (r ∷ older) ≡ source_of s older
-    → brings s older r ≡ record { lines = x ∷ []; delivery = None }
+    → brings s older r ≡ record { lines = x ∷ []; makes = false; delivery = None }
     → Sums (x ∷ []) 0 0 0
     → more ≡ told ++ x ∷ []
     → LanesTell s.settings base o (source_of s older) told tl
-    → LanesTell s.settings base o (source_of s (r ∷ older)) more (with_brought s r.time (brings s older r) tl)
-line_tells s base o older r t x told more tl at same is sums e h =
-    subst (λ (b : Brought). LanesTell s.settings base o (source_of s (r ∷ older)) more (with_brought s r.time b tl)) (sym is)
-    (subst (λ (k : Option Source). LanesTell s.settings base o k more (Told r.time x ∷ tl)) (sym same) (told_tells s.settings base o (source_of s older) r.time x told more tl sums e h))
+    → LanesTell s.settings base o (source_of s (r ∷ older)) more (with_brought s k r.time (brings s older r) tl)
+line_tells s k base o older r t x told more tl at same is sums e h =
+    subst (λ (b : Brought). LanesTell s.settings base o (source_of s (r ∷ older)) more (with_brought s k r.time b tl)) (sym is)
+    (subst (λ (from : Option Source). LanesTell s.settings base o from more (Told r.time x ∷ tl)) (sym same) (told_tells s.settings base o (source_of s older) r.time x told more tl sums e h))
 
 pub skip_tells :
-    (s : Profile) (base : Base) (o : Option Lane) (older : List Timed) (r : Timed) (t n : ℕ) (why : Word) (told more : List BinLine) (tl : Timeline)
+    (s : Profile) (k : Standing) (base : Base) (o : Option Lane) (older : List Timed) (r : Timed) (t n : ℕ) (why : Word) (told more : List BinLine) (tl : Timeline)
     → t ≡ r.time → n ≡ length older + 1
     → heard.Skip why ≡ heard_of s r.captured
     → more ≡ told ++ line.Skip t n why ∷ []
     → LanesTell s.settings base o (source_of s older) told tl
-    → LanesTell s.settings base o (source_of s (r ∷ older)) more (with_brought s r.time (brings s older r) tl)
-skip_tells s base o older r t n why told more tl at count is e h =
-    line_tells s base o older r t (line.Skip t n why) told more tl at
+    → LanesTell s.settings base o (source_of s (r ∷ older)) more (with_brought s k r.time (brings s older r) tl)
+skip_tells s k base o older r t n why told more tl at count is e h =
+    line_tells s k base o older r t (line.Skip t n why) told more tl at
     (ap (λ (x : Heard). first_known (source_of s older) (sender x)) (sym is) ∙ none_after (source_of s older))
     (ap (brought s older r) (sym is) ∙ ap (λ (m : ℕ). only (line.Skip m (length older + 1) why)) (sym at) ∙ ap (λ (m : ℕ). only (line.Skip t m why)) (sym count))
     (record { out_is = refl; lost_is = refl; refused_is = refl }) e h
 
 pub bad_tells :
-    (s : Profile) (base : Base) (o : Option Lane) (older : List Timed) (r : Timed) (t : ℕ) (why : Word) (told more : List BinLine) (tl : Timeline)
+    (s : Profile) (k : Standing) (base : Base) (o : Option Lane) (older : List Timed) (r : Timed) (t : ℕ) (why : Word) (told more : List BinLine) (tl : Timeline)
     → t ≡ r.time
     → heard.Bad why ≡ heard_of s r.captured
     → more ≡ told ++ line.Bad t s.session why ∷ []
     → LanesTell s.settings base o (source_of s older) told tl
-    → LanesTell s.settings base o (source_of s (r ∷ older)) more (with_brought s r.time (brings s older r) tl)
-bad_tells s base o older r t why told more tl at is e h =
-    line_tells s base o older r t (line.Bad t s.session why) told more tl at
+    → LanesTell s.settings base o (source_of s (r ∷ older)) more (with_brought s k r.time (brings s older r) tl)
+bad_tells s k base o older r t why told more tl at is e h =
+    line_tells s k base o older r t (line.Bad t s.session why) told more tl at
     (ap (λ (x : Heard). first_known (source_of s older) (sender x)) (sym is) ∙ none_after (source_of s older))
     (ap (brought s older r) (sym is) ∙ ap (λ (m : ℕ). only (line.Bad m s.session why)) (sym at))
     (record { out_is = refl; lost_is = refl; refused_is = refl }) e h
 
 -- a packet of another source
 pub other_tells :
-    (s : Profile) (base : Base) (o : Option Lane) (older : List Timed) (r : Timed) (t n : ℕ) (source : Source) (p : Packet) (told more : List BinLine) (tl : Timeline)
+    (s : Profile) (k : Standing) (base : Base) (o : Option Lane) (older : List Timed) (r : Timed) (t n : ℕ) (source : Source) (p : Packet) (told more : List BinLine) (tl : Timeline)
     → t ≡ r.time → n ≡ length older + 1
     → heard.Packet source p ≡ heard_of s r.captured
     → is_of o source ≡ false
     → more ≡ told ++ line.Skip t n word.Unbuilt ∷ []
     → LanesTell s.settings base o (source_of s older) told tl
-    → LanesTell s.settings base o (source_of s (r ∷ older)) more (with_brought s r.time (brings s older r) tl)
-other_tells s base o older r t n source p told more tl at count is other e h =
+    → LanesTell s.settings base o (source_of s (r ∷ older)) more (with_brought s k r.time (brings s older r) tl)
+other_tells s k base o older r t n source p told more tl at count is other e h =
     let known : source_of s (r ∷ older) ≡ first_known (source_of s older) (Some source) = ap (λ (x : Heard). first_known (source_of s older) (sender x)) (sym is) in
-    let test : is_source (source_of s (r ∷ older)) source ≡ false = ap (λ (k : Option Source). is_source k source) known ∙ is_of_known s.settings base o (source_of s older) source told tl h ∙ other in
-    line_tells s base o older r t (line.Skip t n word.Unbuilt) told more tl at
+    let test : is_source (source_of s (r ∷ older)) source ≡ false = ap (λ (from : Option Source). is_source from source) known ∙ is_of_known s.settings base o (source_of s older) source told tl h ∙ other in
+    line_tells s k base o older r t (line.Skip t n word.Unbuilt) told more tl at
     (known ∙ other_known s.settings base o (source_of s older) source told tl h other)
     (ap (brought s older r) (sym is)
-    ∙ ap (λ (b : Bool). if b then record { lines = opening s r.time (source_of s older) source; delivery = Some (record { lane = 0; packet = p }) } else only (line.Skip r.time (length older + 1) word.Unbuilt)) test
+    ∙ ap (λ (b : Bool). if b then given s r.time (source_of s older) source p else only (line.Skip r.time (length older + 1) word.Unbuilt)) test
     ∙ ap (λ (m : ℕ). only (line.Skip m (length older + 1) word.Unbuilt)) (sym at) ∙ ap (λ (m : ℕ). only (line.Skip t m word.Unbuilt)) (sym count))
     (record { out_is = refl; lost_is = refl; refused_is = refl }) e h
 
 -- ---- a packet of the lane's source
 
 pub packet_tells :
-    (s : Profile) (base : Base) (o new : Option Lane) (older : List Timed) (r : Timed) (t : ℕ) (source : Source) (p : Packet) (told more : List BinLine) (tl : Timeline)
+    (s : Profile) (k : Standing) (base : Base) (o new : Option Lane) (older : List Timed) (r : Timed) (t : ℕ) (source : Source) (p : Packet) (told more : List BinLine) (tl : Timeline)
     → t ≡ r.time
     → heard.Packet source p ≡ heard_of s r.captured
     → is_of o source ≡ true
-    → (LanesTell s.settings base o (source_of s older) told tl → LanesTell s.settings base new (first_known (source_of s older) (Some source)) more (with_brought s t (given s t (source_of s older) source p) tl))
+    → (LanesTell s.settings base o (source_of s older) told tl → LanesTell s.settings base new (first_known (source_of s older) (Some source)) more (with_brought s k t (given s t (source_of s older) source p) tl))
     → LanesTell s.settings base o (source_of s older) told tl
-    → LanesTell s.settings base new (source_of s (r ∷ older)) more (with_brought s r.time (brings s older r) tl)
-packet_tells s base o new older r t source p told more tl at is same takes h =
+    → LanesTell s.settings base new (source_of s (r ∷ older)) more (with_brought s k r.time (brings s older r) tl)
+packet_tells s k base o new older r t source p told more tl at is same takes h =
     let known : source_of s (r ∷ older) ≡ first_known (source_of s older) (Some source) = ap (λ (x : Heard). first_known (source_of s older) (sender x)) (sym is) in
-    let test : is_source (source_of s (r ∷ older)) source ≡ true = ap (λ (k : Option Source). is_source k source) known ∙ is_of_known s.settings base o (source_of s older) source told tl h ∙ same in
+    let test : is_source (source_of s (r ∷ older)) source ≡ true = ap (λ (from : Option Source). is_source from source) known ∙ is_of_known s.settings base o (source_of s older) source told tl h ∙ same in
     let b_is : brings s older r ≡ given s r.time (source_of s older) source p =
     ap (brought s older r) (sym is) ∙ ap (λ (b : Bool). if b then given s r.time (source_of s older) source p else only (line.Skip r.time (length older + 1) word.Unbuilt)) test in
-    subst (λ (b : Brought). LanesTell s.settings base new (source_of s (r ∷ older)) more (with_brought s r.time b tl)) (sym b_is)
-    (subst (λ (k : Option Source). LanesTell s.settings base new k more (with_brought s r.time (given s r.time (source_of s older) source p) tl)) (sym known)
-    (subst (λ (m : ℕ). LanesTell s.settings base new (first_known (source_of s older) (Some source)) more (with_brought s m (given s m (source_of s older) source p) tl)) at (takes h)))
+    subst (λ (b : Brought). LanesTell s.settings base new (source_of s (r ∷ older)) more (with_brought s k r.time b tl)) (sym b_is)
+    (subst (λ (from : Option Source). LanesTell s.settings base new from more (with_brought s k r.time (given s r.time (source_of s older) source p) tl)) (sym known)
+    (subst (λ (m : ℕ). LanesTell s.settings base new (first_known (source_of s older) (Some source)) more (with_brought s k m (given s m (source_of s older) source p) tl)) at (takes h)))
 
 -- into the lane that is there
 pub kept_lane :
-    (s : Profile) (base : Base) (o : Option Lane) (old new : Lane) (kept : Option Source) (session t : ℕ) (source : Source) (p : Packet) (told more : List BinLine) (tl : Timeline)
+    (s : Profile) (k : Standing) (base : Base) (o : Option Lane) (old new : Lane) (kept : Option Source) (session t : ℕ) (source : Source) (p : Packet) (told more : List BinLine) (tl : Timeline)
     → session ≡ s.session
     → o ≡ Some old
     → new.source ≡ old.source
     → (LaneTells s.settings base 0 old told tl → LaneRests s.settings base 0 new more (delivered s.settings session t (Some (record { lane = 0; packet = p })) tl))
     → LanesTell s.settings base o kept told tl
-    → TellsLane s.settings base new (first_known kept (Some source)) more (with_brought s t (given s t kept source p) tl)
-kept_lane s base o old new kept session t source p told more tl at e same takes h =
+    → TellsLane s.settings base new (first_known kept (Some source)) more (with_brought s k t (given s t kept source p) tl)
+kept_lane s k base o old new kept session t source p told more tl at e same takes h =
     let one : TellsLane s.settings base old kept told tl = subst (λ (x : Option Lane). LanesTell s.settings base x kept told tl) e h in
-    subst (λ (k : Option Source). TellsLane s.settings base new (first_known k (Some source)) more (with_brought s t (given s t k source p) tl)) (sym one.source_is)
+    subst (λ (from : Option Source). TellsLane s.settings base new (first_known from (Some source)) more (with_brought s k t (given s t from source p) tl)) (sym one.source_is)
     (record { source_is = ap (λ (x : Source). Some x) (sym same); rests = subst (λ (n : ℕ). LaneRests s.settings base 0 new more (delivered s.settings n t (Some (record { lane = 0; packet = p })) tl)) at (takes one.rests.tells) })
 
 -- into a lane that is made for it
 pub made_lane :
-    (s : Profile) (base : Base) (o : Option Lane) (made new : Lane) (kept : Option Source) (session t : ℕ) (source : Source) (p : Packet) (told between more : List BinLine) (tl : Timeline)
+    (s : Profile) (k : Standing) (base : Base) (o : Option Lane) (made new : Lane) (kept : Option Source) (session t : ℕ) (source : Source) (p : Packet) (told between more : List BinLine) (tl : Timeline)
     → session ≡ s.session
     → o ≡ None
     → made.source ≡ source
     → new.source ≡ made.source
-    → (TellsNoLane base None told tl → LaneTells s.settings base 0 made between (all_told t (opening s t None source) tl))
-    → (LaneTells s.settings base 0 made between (all_told t (opening s t None source) tl) → LaneRests s.settings base 0 new more (delivered s.settings session t (Some (record { lane = 0; packet = p })) (all_told t (opening s t None source) tl)))
+    → (TellsNoLane base None told tl → LaneTells s.settings base 0 made between (begun true k t (all_told t (opening s t None source) tl)))
+    → (LaneTells s.settings base 0 made between (begun true k t (all_told t (opening s t None source) tl)) → LaneRests s.settings base 0 new more (delivered s.settings session t (Some (record { lane = 0; packet = p })) (begun true k t (all_told t (opening s t None source) tl))))
     → LanesTell s.settings base o kept told tl
-    → TellsLane s.settings base new (first_known kept (Some source)) more (with_brought s t (given s t kept source p) tl)
-made_lane s base o made new kept session t source p told between more tl at e first same makes takes h =
+    → TellsLane s.settings base new (first_known kept (Some source)) more (with_brought s k t (given s t kept source p) tl)
+made_lane s k base o made new kept session t source p told between more tl at e first same makes takes h =
     let none : TellsNoLane base kept told tl = subst (λ (x : Option Lane). LanesTell s.settings base x kept told tl) e h in
     let none_is : TellsNoLane base None told tl = record { none = record { source_is = refl; silent = none.none.silent; tallies = none.none.tallies }; written = none.written } in
-    subst (λ (k : Option Source). TellsLane s.settings base new (first_known k (Some source)) more (with_brought s t (given s t k source p) tl)) (sym none.none.source_is)
-    (record { source_is = ap (λ (x : Source). Some x) (sym (same ∙ first)); rests = subst (λ (n : ℕ). LaneRests s.settings base 0 new more (delivered s.settings n t (Some (record { lane = 0; packet = p })) (all_told t (opening s t None source) tl))) at (takes (makes none_is)) })
-
--- ---- the times
-
-told_latest : (t : ℕ) (xs : List BinLine) (tl : Timeline) → latest tl ≤ t → latest (all_told t xs tl) ≤ t
-told_latest t [] tl le = le
-told_latest t (x ∷ xs) tl le = told_latest t xs (Told t x ∷ tl) (omega arith)
-
-given_latest : (s : Profile) (t : ℕ) (xs : List BinLine) (p : Packet) (tl : Timeline) → latest tl ≤ t → latest (with_brought s t (record { lines = xs; delivery = Some (record { lane = 0; packet = p }) }) tl) ≡ t
-given_latest s t xs p tl le =
-    let before : Timeline = all_told t xs tl in
-    let small : latest before ≤ t = told_latest t xs tl le in
-    let at : latest (ticked s.settings t 0 (pushed s.settings t 0 (arrival_at s.session t p) before)) ≡ max t (max t (latest before)) = ticked_latest s.settings t 0 (pushed s.settings t 0 (arrival_at s.session t p) before) in
-    omega arith
-
-brought_latest : (s : Profile) (older : List Timed) (r : Timed) (x : Heard) (tl : Timeline) → latest tl ≤ r.time → latest (with_brought s r.time (brought s older r x) tl) ≡ r.time
-brought_latest s older r (heard.Skip why) tl le = omega arith
-brought_latest s older r (heard.Bad why) tl le = omega arith
-brought_latest s older r (heard.Packet source p) tl le =
-    elim (is_source (source_of s (r ∷ older)) source) as (λ b. latest (with_brought s r.time (if b then given s r.time (source_of s older) source p else only (line.Skip r.time (length older + 1) word.Unbuilt)) tl) ≡ r.time) [
-      | true ↦ given_latest s r.time (opening s r.time (source_of s older) source) p tl le
-      | false ↦ skip_latest
-    ]
-  where
-    skip_latest : max r.time (latest tl) ≡ r.time
-    skip_latest = omega arith
-
-record_latest : (s : Profile) (older : List Timed) (r : Timed) → latest (timeline s older) ≤ r.time → latest (timeline s (r ∷ older)) ≡ r.time
-record_latest s older r le =
-    let after : Timeline = served s.settings (lane_count s older) r.time (timeline s older) in
-    let most : latest after ≤ max r.time (latest (timeline s older)) = served_latest s.settings (lane_count s older) r.time (timeline s older) in
-    brought_latest s older r (heard_of s r.captured) after (omega arith)
-
-pub taken :
-    (s : Profile) (older : List Timed) (r : Timed) (old new : Stage) (told after : List BinLine)
-    → StandsFor s old older
-    → old.time ≤ r.time
-    → new.profile ≡ old.profile
-    → new.records ≡ old.records + 1
-    → new.time ≡ r.time
-    → LanesTell s.settings (record { before = told; log = lines (timeline s older) }) new.lane (source_of s (r ∷ older)) after (timeline s (r ∷ older))
-    → StageTakes s older r told after new
-taken s older r old new told after st le profile records time h =
-    let base : Base = record { before = told; log = lines (timeline s older) } in
-    let a : Adds base after (lines (timeline s (r ∷ older))) = adds_of s.settings base new.lane (source_of s (r ∷ older)) after (timeline s (r ∷ older)) h in
-    let late : old.time ≡ latest (timeline s older) = st.time in
-    record {
-      told = a.more;
-      added = a.told_is;
-      line = a.all_is;
-      stands =
-          record {
-            profile = profile ∙ st.profile;
-            records = omega (arith, records, st.records);
-            time = time ∙ sym (record_latest s older r (omega arith));
-            lanes = stay s.settings base new.lane (source_of s (r ∷ older)) after (timeline s (r ∷ older)) h;
-          };
-    }
+    subst (λ (from : Option Source). TellsLane s.settings base new (first_known from (Some source)) more (with_brought s k t (given s t from source p) tl)) (sym none.none.source_is)
+    (record { source_is = ap (λ (x : Source). Some x) (sym (same ∙ first)); rests = subst (λ (n : ℕ). LaneRests s.settings base 0 new more (delivered s.settings n t (Some (record { lane = 0; packet = p })) (begun true k t (all_told t (opening s t None source) tl)))) at (takes (makes none_is)) })

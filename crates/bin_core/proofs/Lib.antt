@@ -1,4 +1,5 @@
 pub mod Outcomes
+pub mod Histories
 pub mod Totals
 pub mod Tallying
 pub mod Settling
@@ -6,4 +7,5 @@ pub mod Entering
 pub mod Serving
 pub mod Staging
 pub mod Fronting
+pub mod Timing
 pub mod Binding

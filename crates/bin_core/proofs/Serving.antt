@@ -7,8 +7,6 @@ use Rattle.jitter_model.specs.Laws.{IsLater}
 use Rattle.timeline.specs.declared.line.BinLine.{BinLine}
 use Rattle.log_model.specs.Events.{Timeline, latest}
 use Rattle.log_model.specs.Waking.{Wake, ticked, wake, with_wake, first_wake, due, served}
-use Rattle.log_model.proofs.Turning.{ticked_latest}
-use Rattle.log_model.proofs.Serving.{served_step, served_none}
 use Rattle.bin_core.specs.declared.counted.Lane.{Lane}
 use Rattle.bin_core.specs.Stages.{due_time, room}
 use Rattle.bin_core.specs.Lanes.{Base, LaneTells, LaneRests, LaneServed}
@@ -46,26 +44,29 @@ begins s base limit l last told tl h e = record { now = tl; at = record { rests 
 
 pub goes_on :
     (s : Settings) (base : Base) (limit t : ℕ) (old new : Lane) (last : ℕ) (told more : List BinLine) (tl : Timeline)
+    → ((now : Timeline) → due limit (first_wake (wake s now) 1) ≡ Some (wake_at t) → served s 1 limit now ≡ served s 1 limit (ticked s t 0 now))
+    → ((now : Timeline) → latest (ticked s t 0 now) ≡ max t (latest now))
     → Serving s base limit old last told tl
     → due_time limit old.wake ≡ Some t
     → ((now : Timeline) → LaneTells s base 0 old told now → LaneRests s base 0 new more (ticked s t 0 now))
     → Serving s base limit new (max t last) more tl
-goes_on s base limit t old new last told more tl g e keeps =
+goes_on s base limit t old new last told more tl step later g e keeps =
     let found : due limit (first_wake (wake s g.now) 1) ≡ Some (wake_at t) = some_due limit t (wake s g.now 0) (ap (due_time limit) (sym g.at.rests.wake_is) ∙ e) in
     record {
       now = ticked s t 0 g.now;
-      at = record { rests = keeps g.now g.at.rests.tells; last_is = ap (max t) g.at.last_is ∙ sym (ticked_latest s t 0 g.now) };
-      same = sym (served_step s 1 limit g.now (wake_at t) found) ∙ g.same;
+      at = record { rests = keeps g.now g.at.rests.tells; last_is = ap (max t) g.at.last_is ∙ sym (later g.now) };
+      same = sym (step g.now found) ∙ g.same;
     }
 
 pub ends :
     (s : Settings) (base : Base) (limit : ℕ) (l : Lane) (last : ℕ) (told : List BinLine) (tl : Timeline)
+    → ((now : Timeline) → due limit (first_wake (wake s now) 1) ≡ None → served s 1 limit now ≡ now)
     → Serving s base limit l last told tl
     → due_time limit l.wake ≡ None
     → LaneServed s base 0 l last told (served s 1 limit tl)
-ends s base limit l last told tl g e =
+ends s base limit l last told tl stop g e =
     let found : due limit (first_wake (wake s g.now) 1) ≡ None = none_due limit (wake s g.now 0) (ap (due_time limit) (sym g.at.rests.wake_is) ∙ e) in
-    subst (LaneServed s base 0 l last told) (sym (served_none s 1 limit g.now found) ∙ g.same) g.at
+    subst (LaneServed s base 0 l last told) (sym (stop g.now found) ∙ g.same) g.at
 
 pub falls : (limit t : ℕ) (old new : Option ℕ) → due_time limit old ≡ Some t → IsLater t new → room limit new < room limit old
 falls limit t None new = λ e. cc

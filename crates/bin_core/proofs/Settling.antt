@@ -10,13 +10,12 @@ use Rattle.jitter_model.specs.Turns.{turn, is_quiet, wake_of}
 use Rattle.jitter_core.specs.Words.{Stands, settings_of}
 use Rattle.timeline.specs.declared.line.BinLine.{BinLine}
 use Rattle.log_model.specs.Events.{Timeline, At, lane, lines, turn_lines}
-use Rattle.log_model.specs.Waking.{settled}
-use Rattle.log_model.proofs.Lanes.{lane_here}
-use Rattle.log_model.proofs.Turning.{settled_step, settled_quiet}
+use Rattle.log_model.specs.Waking.{turned, settled}
 use Rattle.bin_core.specs.declared.counted.Lane.{Lane}
 use Rattle.bin_core.specs.Totals.{with_turn}
 use Rattle.bin_core.specs.declared.counted.Counts.{Counts}
 use Rattle.bin_core.specs.Lanes.{Base, Tallies, LaneTells, LaneRests}
+use Rattle.bin_core.proofs.Histories.{lane_here}
 use Rattle.bin_core.proofs.Tallying.{adds_more, turn_tallied}
 
 -- a timeline on the way, which settles to the same
@@ -42,16 +41,17 @@ answer s base n old new told r tl h k = k.value (lane n tl) h.stands ∙ ap (λ 
 
 pub goes_on :
     (s : Settings) (base : Base) (t n : ℕ) (old new : Lane) (told more : List BinLine) (r : Turn) (tl : Timeline)
+    → ((now : Timeline) → is_quiet (turn s (lane n now)) ≡ false → settled s t n now ≡ settled s t n (turned s t n now))
     → Settling s base t n old told tl
     → Turns old new r
     → is_quiet r ≡ false
     → (old.number ≡ n → more ≡ told ++ turn_lines t n r)
     → Settling s base t n new more tl
-goes_on s base t n old new told more r tl g k i is =
+goes_on s base t n old new told more r tl law g k i is =
     let h : History = lane n g.now in
     let r_is : r ≡ turn s h = answer s base n old new told r g.now g.tells k in
     let loud : is_quiet (turn s h) ≡ false = sym (ap is_quiet r_is) ∙ i in
-    let step : settled s t n g.now ≡ settled s t n (At t n (Turned r) ∷ g.now) = settled_step s t n g.now loud ∙ ap (λ (x : Turn). settled s t n (At t n (Turned x) ∷ g.now)) (sym r_is) in
+    let step : settled s t n g.now ≡ settled s t n (At t n (Turned r) ∷ g.now) = law g.now loud ∙ ap (λ (x : Turn). settled s t n (At t n (Turned x) ∷ g.now)) (sym r_is) in
     record {
       now = At t n (Turned r) ∷ g.now;
       tells =
@@ -82,16 +82,17 @@ pub record Stops (mid new : Lane) (r : Turn) : Type 0 where
 
 pub ends :
     (s : Settings) (base : Base) (t n : ℕ) (old mid new : Lane) (told : List BinLine) (r : Turn) (tl : Timeline)
+    → ((now : Timeline) → is_quiet (turn s (lane n now)) ≡ true → settled s t n now ≡ now)
     → Settling s base t n old told tl
     → Turns old mid r
     → is_quiet r ≡ true
     → Stops mid new r
     → LaneRests s base n new told (settled s t n tl)
-ends s base t n old mid new told r tl g k i e =
+ends s base t n old mid new told r tl law g k i e =
     let h : History = lane n g.now in
     let r_is : r ≡ turn s h = answer s base n old mid told r g.now g.tells k in
     let quiet : is_quiet (turn s h) ≡ true = sym (ap is_quiet r_is) ∙ i in
-    subst (LaneRests s base n new told) (sym (settled_quiet s t n g.now quiet) ∙ g.same)
+    subst (LaneRests s base n new told) (sym (law g.now quiet) ∙ g.same)
     (record {
       tells =
           record {

@@ -1,5 +1,5 @@
 -- The replies of a lane come to small numbers: each push leaves at most 8192 numbers uncovered.
-use Rattle.std.proofs.Common.{ℕ, ◌≡◌, ◌+◌, ◌-◌, ◌*◌, ◌≤◌, ◌<◌, ◌^◌, Bool, true, false, refl, ap, List, [], ◌∷◌, Option, None, Some, arith, unwrap_or}
+use Rattle.std.proofs.Common.{ℕ, ◌≡◌, ◌+◌, ◌-◌, ◌*◌, ◌≤◌, ◌<◌, ◌^◌, Bool, true, false, refl, sym, ap, ◌∙◌, List, [], ◌∷◌, Option, None, Some, arith, unwrap_or}
 use Rattle.std.specs.Prelude.{if◌then◌else◌}
 use Rattle.std.proofs.Props.{props}
 use Rattle.std.proofs.Math.Logic.{∥∥₁_elim}
@@ -9,6 +9,7 @@ use Rattle.jitter_model.specs.declared.Turn.{Turn}
 use Rattle.jitter_model.specs.declared.Turn.TheVariants.{Packet, Lost, Request, End, Idle, Flushing}
 use Rattle.jitter_model.specs.declared.Verdict.{Verdict}
 use Rattle.jitter_model.specs.declared.Verdict.TheVariants as verdict
+use Rattle.jitter_model.specs.declared.Entry.{Entry}
 use Rattle.jitter_model.specs.declared.Entry.TheVariants.{Push, Clock, FlushStart, FlushStop, Latency, Report, Ends, Turned}
 use Rattle.jitter_model.specs.History.{History, pushes, is_flushing}
 use Rattle.jitter_model.specs.Accepted.{Taken, top, least, accepted}
@@ -17,8 +18,6 @@ use Rattle.jitter_model.specs.Turns.{Sight, sight}
 use Rattle.jitter_model.specs.Runs.{Run}
 use Rattle.jitter_model.specs.Laws.{IsWindow}
 use Rattle.jitter_model.proofs.Covers.{Covers, covers}
-use Rattle.jitter_model.proofs.Numbered.{pushes_most}
-use Rattle.jitter_model.proofs.Window.{window}
 use Rattle.jitter_core.specs.declared.buffer.Buffer.{Buffer}
 use Rattle.jitter_core.specs.Words.{Stands}
 use Rattle.bin_core.specs.declared.counted.Counts.{Counts}
@@ -57,27 +56,43 @@ covering v t m o Flushing = λ e c w. omega arith
 abbrev pub uncovered_in : History → ℕ
 uncovered_in h = uncovered (top (accepted h)) (least (accepted h)) (next h)
 
-few_in : (s : Settings) (h : History) → Run s h → uncovered_in h ≤ 8192
-few_in s h run = uncovered_few (top (accepted h)) (least (accepted h)) (next h) (window s h run).fact
+-- the law of the window
+abbrev pub WindowLaw : Type 0
+WindowLaw = (s : Settings) (h : History) → Run s h → IsWindow (top (accepted h)) (least (accepted h)) (next h)
 
-turned_covers : (s : Settings) (h : History) (r : Turn) → Run s (Turned r ∷ h) → turn_out r + turn_lost r + uncovered_in (Turned r ∷ h) ≤ uncovered_in h
-turned_covers s h r run =
-    covering (sight s h) (top (accepted h)) (least (accepted h)) (next h) r refl (covers s h r run.0).fact (window s (Turned r ∷ h) run).fact
+few_in : WindowLaw → (s : Settings) (h : History) → Run s h → uncovered_in h ≤ 8192
+few_in window s h run = uncovered_few (top (accepted h)) (least (accepted h)) (next h) (window s h run)
+
+turned_covers : WindowLaw → (s : Settings) (h : History) (r : Turn) → Run s (Turned r ∷ h) → turn_out r + turn_lost r + uncovered_in (Turned r ∷ h) ≤ uncovered_in h
+turned_covers window s h r run =
+    covering (sight s h) (top (accepted h)) (least (accepted h)) (next h) r refl (covers s h r run.0).fact (window s (Turned r ∷ h) run)
 
 flushed : (b : Bool) (ps : List Taken) (o : Option ℕ) → uncovered (top (if b then [] else ps)) (least (if b then [] else ps)) (if b then None else o) ≤ uncovered (top ps) (least ps) o
 flushed true ps o = omega arith
 flushed false ps o = omega arith
 
-pub covered_few : (s : Settings) (h : History) → Run s h → outs h + losses h + uncovered_in h ≤ 8192 * pushes h
-covered_few s [] run = omega arith
-covered_few s (Push a v n d ∷ h) run = omega (arith, covered_few s h run.1, few_in s (Push a v n d ∷ h) run)
-covered_few s (Clock t ∷ h) run = covered_few s h run.1
-covered_few s (FlushStart d ∷ h) run = covered_few s h run.1
-covered_few s (FlushStop ∷ h) run = omega (arith, covered_few s h run, flushed (is_flushing h) (accepted h) (next h))
-covered_few s (Latency ns ∷ h) run = covered_few s h run.1
-covered_few s (Report ntp rtp reply ∷ h) run = covered_few s h run.1
-covered_few s (Ends p ∷ h) run = covered_few s h run.1
-covered_few s (Turned r ∷ h) run = omega (arith, covered_few s h run.1, turned_covers s h r run)
+pub covered_few : WindowLaw → (s : Settings) (h : History) → Run s h → outs h + losses h + uncovered_in h ≤ 8192 * pushes h
+covered_few window s [] run = omega arith
+covered_few window s (Push a v n d ∷ h) run = omega (arith, covered_few window s h run.1, few_in window s (Push a v n d ∷ h) run)
+covered_few window s (Clock t ∷ h) run = covered_few window s h run.1
+covered_few window s (FlushStart d ∷ h) run = covered_few window s h run.1
+covered_few window s (FlushStop ∷ h) run = omega (arith, covered_few window s h run, flushed (is_flushing h) (accepted h) (next h))
+covered_few window s (Latency ns ∷ h) run = covered_few window s h run.1
+covered_few window s (Report ntp rtp reply ∷ h) run = covered_few window s h run.1
+covered_few window s (Ends p ∷ h) run = covered_few window s h run.1
+covered_few window s (Turned r ∷ h) run = omega (arith, covered_few window s h run.1, turned_covers window s h r run)
+
+-- there are at most 2^31 pushes
+pushes_most : (s : Settings) (h : History) → Run s h → pushes h ≤ 2147483648
+pushes_most s [] run = omega arith
+pushes_most s (Push a v n d ∷ h) run = let few : pushes h < 2147483648 = run.0.few in omega arith
+pushes_most s (Clock t ∷ h) run = pushes_most s h run.1
+pushes_most s (FlushStart d ∷ h) run = pushes_most s h run.1
+pushes_most s (FlushStop ∷ h) run = pushes_most s h run
+pushes_most s (Latency ns ∷ h) run = pushes_most s h run.1
+pushes_most s (Report ntp rtp reply ∷ h) run = pushes_most s h run.1
+pushes_most s (Ends p ∷ h) run = pushes_most s h run.1
+pushes_most s (Turned r ∷ h) run = pushes_most s h run.1
 
 refusal_one : (v : Verdict) → refusal v ≤ 1
 refusal_one verdict.Accepted = omega arith
@@ -108,13 +123,19 @@ pub record HasRoom (c : Counts) : Type 0 where
   pub lost : c.lost < 2 ^ 64
   pub refused : c.refused < 2 ^ 64
 
-room_of : (b : Buffer) (c : Counts) (h : History) → CountsOf b c h → HasRoom c
-room_of b c h k =
+room_of : WindowLaw → (b : Buffer) (c : Counts) (h : History) → CountsOf b c h → HasRoom c
+room_of window b c h k =
     let run : Run (b.state.settings) h = k.stands.run in
-    let few : outs h + losses h + uncovered_in h ≤ 8192 * pushes h = covered_few b.state.settings h run in
+    let few : outs h + losses h + uncovered_in h ≤ 8192 * pushes h = covered_few window b.state.settings h run in
     let most : pushes h ≤ 2147483648 = pushes_most b.state.settings h run in
     let refused : refusals h ≤ pushes h = refused_few h in
     record { out = omega (arith, k.out); lost = omega (arith, k.lost); refused = omega (arith, k.refused) }
+
+-- a call that changes no count of a history
+pub record Uncounted (e : Entry) (h : History) : Type 0 where
+  pub out : outs (e ∷ h) ≡ outs h
+  pub lost : losses (e ∷ h) ≡ losses h
+  pub refused : refusals (e ∷ h) ≡ refusals h
 
 -- a turn is counted
 pub turn_counted : (old new : Buffer) (c : Counts) (r : Turn) → ((h : History) → Stands old h → Stands new (Turned r ∷ h)) → IsCounted old c → IsCounted new (with_turn c r)
@@ -128,21 +149,19 @@ push_counted old new c a v n d stands k =
     ∥∥₁_elim k (hlevel props)
     (λ x. ∣ (Push a v n d ∷ x.0, record { stands = stands x.0 x.1.stands; out = x.1.out; lost = x.1.lost; refused = ap (λ (m : ℕ). m + refusal v) x.1.refused }) ∣₁)
 
-pub clock_counted : (old new : Buffer) (c : Counts) (t : ℕ) → ((h : History) → Stands old h → Stands new (Clock t ∷ h)) → IsCounted old c → IsCounted new c
-clock_counted old new c t stands k =
-    ∥∥₁_elim k (hlevel props) (λ x. ∣ (Clock t ∷ x.0, record { stands = stands x.0 x.1.stands; out = x.1.out; lost = x.1.lost; refused = x.1.refused }) ∣₁)
-
-pub end_counted : (old new : Buffer) (c : Counts) (p : ℕ) → ((h : History) → Stands old h → Stands new (Ends p ∷ h)) → IsCounted old c → IsCounted new c
-end_counted old new c p stands k =
-    ∥∥₁_elim k (hlevel props) (λ x. ∣ (Ends p ∷ x.0, record { stands = stands x.0 x.1.stands; out = x.1.out; lost = x.1.lost; refused = x.1.refused }) ∣₁)
+-- a call that is neither changes no count
+pub call_counted : (old new : Buffer) (c : Counts) (e : Entry) → ((h : History) → Stands old h → Stands new (e ∷ h)) → ((h : History) → Uncounted e h) → IsCounted old c → IsCounted new c
+call_counted old new c e stands same k =
+    ∥∥₁_elim k (hlevel props)
+    (λ x. ∣ (e ∷ x.0, record { stands = stands x.0 x.1.stands; out = x.1.out ∙ sym (same x.0).out; lost = x.1.lost ∙ sym (same x.0).lost; refused = x.1.refused ∙ sym (same x.0).refused }) ∣₁)
 
 pub fresh_counted : (b : Buffer) → Stands b [] → IsCounted b (record { out = 0; lost = 0; refused = 0 })
 fresh_counted b st = ∣ ([], record { stands = st; out = refl; lost = refl; refused = refl }) ∣₁
 
 -- the counts with a reply fit their types
-pub has_room : (b : Buffer) (c : Counts) → IsCounted b c → HasRoom c
-has_room b c k = record {
-  out = ∥∥₁_elim k (hlevel props) (λ x. (room_of b c x.0 x.1).out);
-  lost = ∥∥₁_elim k (hlevel props) (λ x. (room_of b c x.0 x.1).lost);
-  refused = ∥∥₁_elim k (hlevel props) (λ x. (room_of b c x.0 x.1).refused);
+pub has_room : WindowLaw → (b : Buffer) (c : Counts) → IsCounted b c → HasRoom c
+has_room window b c k = record {
+  out = ∥∥₁_elim k (hlevel props) (λ x. (room_of window b c x.0 x.1).out);
+  lost = ∥∥₁_elim k (hlevel props) (λ x. (room_of window b c x.0 x.1).lost);
+  refused = ∥∥₁_elim k (hlevel props) (λ x. (room_of window b c x.0 x.1).refused);
 }

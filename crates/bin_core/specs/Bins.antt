@@ -1,4 +1,4 @@
--- The lists of records that a bin stands for.
+-- The lists of inputs that a bin stands for.
 use Rattle.std.specs.Prelude.{ℕ, ◌≡◌, ◌++◌, List, [], ◌∷◌, length, reverse, Option, Some, None}
 use Rattle.jitter_model.specs.declared.Settings.{Settings}
 use Rattle.pcap_file.specs.declared.record.PcapRecord.{PcapRecord}
@@ -7,6 +7,8 @@ use Rattle.timeline.specs.declared.line.BinLine.{BinLine}
 use Rattle.log_model.specs.declared.Profile.{Profile}
 use Rattle.log_model.specs.declared.Source.{Source}
 use Rattle.log_model.specs.Times.{Timed}
+use Rattle.log_model.specs.Inputs.{Input, records_in}
+use Rattle.log_model.specs.Standings.{standing as standing_after}
 use Rattle.log_model.specs.Front.{source_of}
 use Rattle.log_model.specs.Events.{Timeline, lane, latest, lines}
 use Rattle.log_model.specs.Log.{timeline, log_part, log}
@@ -34,30 +36,31 @@ abbrev pub LanesStand : Settings → Option Lane → Option Source → Timeline 
 LanesStand s None source tl = HasNoLane source tl
 LanesStand s (Some l) source tl = HasLane s l source tl
 
--- a bin's fields stand for these records, the newest of which is the first
-pub record StandsFor (s : Profile) (stage : Stage) (rs : List Timed) : Type 0 where
+-- a bin's fields stand for these inputs, the newest of which is the first
+pub record StandsFor (s : Profile) (stage : Stage) (xs : List Input) : Type 0 where
   pub profile : stage.profile ≡ s
-  pub records : stage.records ≡ length rs
-  pub time : stage.time ≡ latest (timeline s rs)
-  pub lanes : LanesStand s.settings stage.lane (source_of s rs) (timeline s rs)
+  pub standing : stage.standing ≡ standing_after s xs
+  pub records : stage.records ≡ length (records_in xs)
+  pub time : stage.time ≡ latest (timeline s xs)
+  pub lanes : LanesStand s.settings stage.lane (source_of s (records_in xs)) (timeline s xs)
 
--- a bin of this profile stands for the records that it has taken, the first of which is the first
-unfoldable pub BinStands : Profile → Bin → List Timed → Type 0
+-- a bin of this profile stands for the inputs that it has taken, the first of which is the first
+unfoldable pub BinStands : Profile → Bin → List Input → Type 0
 BinStands s bin seen = StandsFor s bin.stage (reverse seen)
 
 -- a record of a capture with this link type, at its time
 abbrev pub timed : ℕ → ℕ → PcapRecord → Timed
 timed time link r = record { time = time; captured = record_view link r }
 
--- a record was taken: these lines were added, which the log has next, and the bin stands for one record more
-pub record TakesOn (s : Profile) (seen : List Timed) (r : Timed) (before after : List BinLine) (bin : Bin) : Type 0 where
+-- an input was taken: these lines were added, which the log has next, and the bin stands for one input more
+pub record TakesOn (s : Profile) (seen : List Input) (x : Input) (before after : List BinLine) (bin : Bin) : Type 0 where
   pub told : List BinLine
   pub added : after ≡ before ++ told
-  pub line : log_part s (seen ++ r ∷ []) ≡ log_part s seen ++ told
-  pub stands : BinStands s bin (seen ++ r ∷ [])
+  pub line : log_part s (seen ++ x ∷ []) ≡ log_part s seen ++ told
+  pub stands : BinStands s bin (seen ++ x ∷ [])
 
 -- the end came: these lines were added, which complete the log
-pub record Completes (s : Profile) (seen : List Timed) (before after : List BinLine) : Type 0 where
+pub record Completes (s : Profile) (seen : List Input) (before after : List BinLine) : Type 0 where
   pub told : List BinLine
   pub added : after ≡ before ++ told
   pub line : log s seen ≡ log_part s seen ++ told

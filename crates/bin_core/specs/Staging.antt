@@ -1,15 +1,15 @@
 -- The lanes of a bin along the timeline, in a call.
-use Rattle.std.specs.Prelude.{ℕ, ◌≡◌, ◌++◌, Bool, true, List, [], ◌∷◌, length, is_some, if◌then◌else◌, Option, Some, None}
+use Rattle.std.specs.Prelude.{ℕ, ◌≡◌, ◌++◌, Bool, true, not, List, [], ◌∷◌, length, is_some, if◌then◌else◌, Option, Some, None}
 use Rattle.jitter_model.specs.declared.Settings.{Settings}
 use Rattle.jitter_model.specs.declared.Packet.{Packet}
 use Rattle.timeline.specs.declared.line.BinLine.{BinLine}
 use Rattle.log_model.specs.declared.Profile.{Profile}
 use Rattle.log_model.specs.declared.Source.{Source}
 use Rattle.timeline.specs.declared.line.BinLine.TheVariants as told
-use Rattle.log_model.specs.Times.{Timed}
-use Rattle.log_model.specs.Front.{Brought, opening, is_same, lane_count}
+use Rattle.log_model.specs.Inputs.{Input, records_in}
+use Rattle.log_model.specs.Front.{Brought, opening, is_same}
 use Rattle.log_model.specs.Events.{Timeline, latest, lines, done_line}
-use Rattle.log_model.specs.Log.{timeline, whole_timeline}
+use Rattle.log_model.specs.Log.{lanes_in, timeline, whole_timeline}
 use Rattle.bin_core.specs.declared.counted.Lane.{Lane}
 use Rattle.bin_core.specs.Lanes.{Base, Adds, LaneRests}
 use Rattle.bin_core.specs.Bins.{HasNoLane, StandsFor}
@@ -48,19 +48,19 @@ abbrev pub done_of : Option Lane → ℕ → BinLine
 done_of None records = told.Done records 0 0 0 0
 done_of (Some l) records = told.Done records 1 l.counts.out l.counts.lost l.counts.refused
 
--- a record was taken after these ones, the newest of which is the first
-pub record StageTakes (s : Profile) (older : List Timed) (r : Timed) (before after : List BinLine) (stage : Stage) : Type 0 where
+-- an input was taken after these ones, the newest of which is the first
+pub record StageTakes (s : Profile) (older : List Input) (x : Input) (before after : List BinLine) (stage : Stage) : Type 0 where
   pub told : List BinLine
   pub added : after ≡ before ++ told
-  pub line : lines (timeline s (r ∷ older)) ≡ lines (timeline s older) ++ told
-  pub stands : StandsFor s stage (r ∷ older)
+  pub line : lines (timeline s (x ∷ older)) ≡ lines (timeline s older) ++ told
+  pub stands : StandsFor s stage (x ∷ older)
 
--- the end came after these records
-pub record StageEnds (s : Profile) (rs : List Timed) (before after : List BinLine) : Type 0 where
+-- the end came after these inputs
+pub record StageEnds (s : Profile) (xs : List Input) (before after : List BinLine) : Type 0 where
   pub told : List BinLine
-  pub added : after ≡ before ++ told ++ done_line (length rs) (lane_count s rs) (lines (whole_timeline s rs)) ∷ []
-  pub line : lines (whole_timeline s rs) ≡ lines (timeline s rs) ++ told
+  pub added : after ≡ before ++ told ++ done_line (length (records_in xs)) (lanes_in s xs) (lines (whole_timeline s xs)) ∷ []
+  pub line : lines (whole_timeline s xs) ≡ lines (timeline s xs) ++ told
 
 -- what a packet of the lane's source brings: the lines that make the lane, where it is the first, and the packet for lane 0
 abbrev pub given : Profile → ℕ → Option Source → Source → Packet → Brought
-given s t kept source p = record { lines = opening s t kept source; delivery = Some (record { lane = 0; packet = p }) }
+given s t kept source p = record { lines = opening s t kept source; makes = not (is_some kept); delivery = Some (record { lane = 0; packet = p }) }

@@ -1,12 +1,12 @@
-//! The bin: records in order of time, and wakes between them.
+//! The bin: records and items in order of time, and wakes between them.
 ghost use Rattle.std.specs.Prelude.{◌≡◌, ◌<◌, ◌≤◌, ◌+◌, ◌^◌, List, [], OnOk};
 ghost use Rattle.log_model.specs.declared.Profile.{Profile as ProfileOf};
-ghost use Rattle.log_model.specs.Captured.{IsProfile, pushers_of};
-ghost use Rattle.log_model.specs.Times.{Timed};
+ghost use Rattle.log_model.specs.Captured.{IsItem, IsProfile, pushers_of};
+ghost use Rattle.log_model.specs.Inputs.{Input, OfCapture, OfScript};
 ghost use Rattle.bin_core.specs.Stages.{pushers_in, pushes_in};
 
-use crate::stage::{Stage, finish, take_record};
-use log_model::Profile;
+use crate::stage::{Stage, control, finish, take_record};
+use log_model::{Item, Profile, Standing};
 use pcap_file::PcapRecord;
 use rtp_units::OutOfMemory;
 use std::alloc::Global;
@@ -17,8 +17,8 @@ pub const MAX_RECORDS: u64 = 100_000_000;
 
 /// One session with at most one source: the first that sends a packet of the session.
 ///
-/// A bin stands for the list of the records that it has taken, each at its time, and each call adds the
-/// lines that the log of `log_model` has next. After want of memory it stands for no list: later calls are
+/// A bin stands for the list of the records and items that it has taken, each at its time, and each call adds
+/// the lines that the log of `log_model` has next. After want of memory it stands for no list: later calls are
 /// safe, and nothing is said of their lines.
 #[derive(Drop)]
 pub struct Bin {
@@ -26,13 +26,14 @@ pub struct Bin {
     ghost profile: { IsProfile stage.profile },
     ghost pushers: { pushers_in stage.profile.session stage.lane ≡ pushers_of stage.profile.session },
     ghost room: { pushes_in stage.lane ≤ stage.records },
+    ghost latency: { stage.standing.latency ≤ 600000000000 },
 }
 
 impl Bin {
     ghost use Rattle.bin_core.specs.Words.{records_of, time_of};
     ghost use Rattle.bin_core.specs.Bins.{BinStands, TakesOn, Completes, timed};
 
-    /// A bin before any record.
+    /// A bin before any record and item.
     pub fn new(profile: &Profile) -> Bin
         requires { IsProfile profile.now }
         ensures records { records_of result ≡ 0 }
@@ -42,6 +43,10 @@ impl Bin {
         Bin {
             stage: Stage {
                 profile: *profile,
+                standing: Standing {
+                    latency: profile.settings.latency,
+                    flushing: false,
+                },
                 lane: None,
                 records: 0,
                 time: 0,
@@ -80,14 +85,26 @@ impl Bin {
         requires small { time < 2 ^ 63 }
         ensures records { records_of self.new ≡ n }
         ensures time { time_of self.new ≡ time }
-        ensures stands { OnOk result ((s : ProfileOf) (seen : List Timed) → BinStands s self.old seen → TakesOn s seen (timed time link rec.now) lines.old lines.new self.new) }
+        ensures stands { OnOk result ((s : ProfileOf) (seen : List Input) → BinStands s self.old seen → TakesOn s seen (OfCapture (timed time link rec.now)) lines.old lines.new self.new) }
     {
         take_record(&mut self.stage, alloc, n, time, link, rec, lines)
     }
 
+    /// Takes an item of the script: the wakes up to its time are served before it. It comes to the lane, if
+    /// there is one, which takes its turns then. Its lines are added to `lines`.
+    pub fn control(&mut self, item: &Item, lines: &mut Lines) -> Result<(), OutOfMemory>
+        requires item { IsItem item.now }
+        requires onward { time_of self.old ≤ item.now.time }
+        ensures records { records_of self.new ≡ records_of self.old }
+        ensures time { time_of self.new ≡ item.now.time }
+        ensures stands { OnOk result ((s : ProfileOf) (seen : List Input) → BinStands s self.old seen → TakesOn s seen (OfScript item.now) lines.old lines.new self.new) }
+    {
+        control(&mut self.stage, item, lines)
+    }
+
     /// Serves the wakes that are left, ends the lane and adds the last line.
     pub fn finish(&mut self, lines: &mut Lines) -> Result<(), OutOfMemory>
-        ensures { OnOk result ((s : ProfileOf) (seen : List Timed) → BinStands s self.old seen → Completes s seen lines.old lines.new) }
+        ensures { OnOk result ((s : ProfileOf) (seen : List Input) → BinStands s self.old seen → Completes s seen lines.old lines.new) }
     {
         finish(&mut self.stage, lines)
     }

@@ -1,20 +1,22 @@
 //! One lane along the timeline.
-ghost use Rattle.std.specs.Prelude.{◌≡◌, ◌<◌, ◌≤◌, ◌^◌, ◌+◌, ℕ, IfOk, IfSome, OnOk};
+ghost use Rattle.std.specs.Prelude.{◌≡◌, ◌<◌, ◌≤◌, ◌^◌, ◌+◌, ◌∷◌, ℕ, IfOk, IfSome, OnOk, true};
 ghost use Rattle.jitter_model.specs.declared.Settings.{Settings};
 ghost use Rattle.jitter_model.specs.Laws.{IsLater};
 ghost use Rattle.jitter_core.specs.Words.{now_of, pushes_of, settings_of};
-ghost use Rattle.log_model.specs.Captured.{pushers_of};
-ghost use Rattle.log_model.specs.Events.{Timeline, latest};
-ghost use Rattle.log_model.specs.Waking.{settled, ticked, served, delivered, ended};
+ghost use Rattle.jitter_model.specs.declared.Entry.TheVariants.{Clock};
+ghost use Rattle.log_model.specs.Captured.{IsControl, IsItem, pushers_of};
+ghost use Rattle.log_model.specs.Events.{Timeline, At, latest};
+ghost use Rattle.log_model.specs.Waking.{settled, ticked, served, flush_begun, begun, acted, delivered, ended};
 ghost use Rattle.bin_core.specs.Stages.{due_time};
 ghost use Rattle.bin_core.specs.Lanes.{Base, LaneTells, LaneRests, LaneServed};
 
 use crate::counted::{Lane, push_arrival, take_turn};
 use crate::replies::{reply_line, tell_dropped, tell_verdict};
 use jitter_core::{Arrival, Origin, Packet, Turn};
-use log_model::CONTROL;
+use log_model::laws::{serves_all, time_goes_on, turns_come_to_rest};
+use log_model::{CONTROL, Control, Item, Standing};
 use rtp_units::OutOfMemory;
-use timeline::Lines;
+use timeline::{BinLine, Lines};
 
 /// A packet of the lane's session comes to the lane, and the lane takes its turns.
 pub fn take(
@@ -70,6 +72,8 @@ pub fn settle(lane: &mut Lane, time: u64, lines: &mut Lines) -> Result<(), OutOf
     ensures count { pushes_of lane.new.buffer ≡ pushes_of lane.old.buffer }
     ensures stands { OnOk result ((s : Settings) (base : Base) (n : ℕ) (tl : Timeline) → LaneTells s base n lane.old lines.old tl → LaneRests s base n lane.new lines.new (settled s time n tl)) }
 {
+    // A law for the proof; the call does nothing.
+    turns_come_to_rest();
     'turns: loop {
         match take_turn(lane) {
             Turn::Idle { wake } => {
@@ -110,6 +114,9 @@ pub fn serve(
     ensures count { pushes_of lane.new.buffer ≡ pushes_of lane.old.buffer }
     ensures stands { IfOk result (λ last. (s : Settings) (base : Base) (tl : Timeline) → LaneRests s base 0 lane.old lines.old tl → before ≡ latest tl → LaneServed s base 0 lane.new last lines.new (served s 1 limit tl)) }
 {
+    // Laws for the proof; the calls do nothing.
+    serves_all();
+    time_goes_on();
     let mut last = before;
     'wakes: loop {
         match due(lane, limit) {
@@ -118,6 +125,85 @@ pub fn serve(
                 tick(lane, wake, lines)?;
                 last = wake.max(last);
             }
+        }
+    }
+}
+
+/// A lane that is made begins with the latency that its session has, and in its flush.
+pub fn begin(
+    lane: &mut Lane,
+    standing: Standing,
+    time: u64,
+    lines: &mut Lines,
+) -> Result<(), OutOfMemory>
+    requires { standing.latency ≤ 600000000000 }
+    ensures source { lane.new.source ≡ lane.old.source }
+    ensures settings { settings_of lane.new.buffer ≡ settings_of lane.old.buffer }
+    ensures count { pushes_of lane.new.buffer ≡ pushes_of lane.old.buffer }
+    ensures stands { OnOk result ((s : Settings) (base : Base) (tl : Timeline) → LaneTells s base 0 lane.old lines.old tl → LaneTells s base 0 lane.new lines.new (begun true standing time tl)) }
+{
+    lane.buffer.set_latency(standing.latency);
+    if standing.flushing {
+        begin_flush(lane, time, lines)
+    } else {
+        Ok(())
+    }
+}
+
+// A flush of the lane begins.
+fn begin_flush(lane: &mut Lane, time: u64, lines: &mut Lines) -> Result<(), OutOfMemory>
+    ensures source { lane.new.source ≡ lane.old.source }
+    ensures settings { settings_of lane.new.buffer ≡ settings_of lane.old.buffer }
+    ensures count { pushes_of lane.new.buffer ≡ pushes_of lane.old.buffer }
+    ensures stands { OnOk result ((s : Settings) (base : Base) (n : ℕ) (tl : Timeline) → LaneTells s base n lane.old lines.old tl → LaneTells s base n lane.new lines.new (flush_begun time n tl)) }
+{
+    let count = lane.buffer.flush_start();
+    lines.push(BinLine::Flush {
+        time,
+        lane: lane.number,
+        count,
+    })
+}
+
+/// An item comes to the lane: its clock comes to the item's time, this is done to it, and it takes its turns.
+pub fn control(lane: &mut Lane, item: &Item, lines: &mut Lines) -> Result<(), OutOfMemory>
+    requires { IsItem item.now }
+    ensures source { lane.new.source ≡ lane.old.source }
+    ensures settings { settings_of lane.new.buffer ≡ settings_of lane.old.buffer }
+    ensures count { pushes_of lane.new.buffer ≡ pushes_of lane.old.buffer }
+    ensures stands { OnOk result ((s : Settings) (base : Base) (n : ℕ) (tl : Timeline) → LaneTells s base n lane.old lines.old tl → LaneRests s base n lane.new lines.new (ticked s item.now.time n (acted item.now.time n item.now.control (At item.now.time n (Clock item.now.time) ∷ tl)))) }
+{
+    lane.buffer.clock(item.time);
+    act(lane, item.time, item.control, lines)?;
+    tick(lane, item.time, lines)
+}
+
+// What the script does to the lane.
+fn act(lane: &mut Lane, time: u64, control: Control, lines: &mut Lines) -> Result<(), OutOfMemory>
+    requires { IsControl control }
+    ensures source { lane.new.source ≡ lane.old.source }
+    ensures settings { settings_of lane.new.buffer ≡ settings_of lane.old.buffer }
+    ensures count { pushes_of lane.new.buffer ≡ pushes_of lane.old.buffer }
+    ensures stands { OnOk result ((s : Settings) (base : Base) (n : ℕ) (tl : Timeline) → LaneTells s base n lane.old lines.old tl → LaneTells s base n lane.new lines.new (acted time n control tl)) }
+{
+    match control {
+        Control::Clock => Ok(()),
+        Control::FlushStart => begin_flush(lane, time, lines),
+        Control::FlushStop => {
+            lane.buffer.flush_stop();
+            lines.push(BinLine::Flushed {
+                time,
+                lane: lane.number,
+            })
+        }
+        Control::Latency(ns) => {
+            lines.push(BinLine::Latency {
+                time,
+                lane: lane.number,
+                ns,
+            })?;
+            lane.buffer.set_latency(ns);
+            Ok(())
         }
     }
 }

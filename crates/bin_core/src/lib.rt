@@ -1,5 +1,5 @@
-//! The bin: what becomes of a capture's records, on one thread and without a clock of its own. Times
-//! come in as arguments, and lines go out as values.
+//! The bin: what becomes of a capture's records and a script's items, on one thread and without a clock of
+//! its own. Times come in as arguments, and lines go out as values.
 #![tactic(auto)]
 
 mod bin;
@@ -7,6 +7,7 @@ mod counted;
 mod counting;
 mod front;
 mod lane;
+mod lanes;
 mod replies;
 mod stage;
 

@@ -4,16 +4,23 @@ use Rattle.std.specs.Prelude.{if◌then◌else◌, reverse, length}
 use Rattle.std.proofs.lemmas.List.{append_assoc, append-nil, reverse-append}
 use Rattle.jitter_model.specs.declared.Settings.{Settings}
 use Rattle.jitter_model.specs.declared.Entry.{Entry}
-use Rattle.jitter_model.specs.declared.Entry.TheVariants.{Clock, Ends, Turned}
+use Rattle.jitter_model.specs.declared.Entry.TheVariants.{Clock, FlushStart, FlushStop, Latency, Ends, Turned}
+use Rattle.jitter_model.specs.Runs.{flush_count}
 use Rattle.jitter_model.specs.Turns.{turn, is_quiet, left}
 use Rattle.timeline.specs.declared.line.BinLine.{BinLine}
+use Rattle.timeline.specs.declared.line.BinLine.TheVariants as line
 use Rattle.log_model.specs.declared.TheConstants.{CONTROL, END_OF_TIME}
+use Rattle.log_model.specs.declared.Control.{Control}
+use Rattle.log_model.specs.declared.Control.TheVariants as control
+use Rattle.log_model.specs.declared.Item.{Item}
 use Rattle.log_model.specs.declared.Profile.{Profile}
-use Rattle.log_model.specs.Times.{Timed}
-use Rattle.log_model.specs.Front.{Delivery, Brought, brings, lane_count}
-use Rattle.log_model.specs.Events.{Timeline, Event, Told, At, lane, lines, event_lines, done_line}
-use Rattle.log_model.specs.Waking.{turned, turns, settled, ticked, wake, Wake, first_wake, due, rooms, serve, serve_due, served, arrival_at, pushed, delivered, ended, all_ended}
-use Rattle.log_model.specs.Log.{all_told, with_brought, with_record, timeline, closed, whole_timeline, log_part, log, Begins}
+use Rattle.log_model.specs.declared.Standing.{Standing}
+use Rattle.log_model.specs.Inputs.{Input, OfCapture, OfScript, records_in}
+use Rattle.log_model.specs.Standings.{standing}
+use Rattle.log_model.specs.Front.{Delivery, Brought, brings}
+use Rattle.log_model.specs.Events.{Timeline, Event, Came, Told, At, lane, lines, event_lines, done_line}
+use Rattle.log_model.specs.Waking.{turned, turns, settled, ticked, wake, Wake, first_wake, due, rooms, serve, serve_due, served, acted, all_acted, all_ticked, controlled, flushed_at_begin, begun, arrival_at, pushed, delivered, ended, all_ended}
+use Rattle.log_model.specs.Log.{all_told, with_brought, lanes_in, with_input, timeline, closed, whole_timeline, log_part, log, Begins}
 
 -- the new timeline has the old one's lines first
 pub record Grows (old new : Timeline) : Type 0 where
@@ -65,17 +72,54 @@ delivered_grows s session t None tl = grows_same tl
 delivered_grows s session t (Some d) tl =
     grows_then tl (pushed s t d.lane (arrival_at session t d.packet) tl) _ (grows_one _ tl) (ticked_grows s t d.lane (pushed s t d.lane (arrival_at session t d.packet) tl))
 
-brought_grows : (s : Profile) (t : ℕ) (b : Brought) (tl : Timeline) → Grows tl (with_brought s t b tl)
-brought_grows s t b tl = grows_then tl (all_told t b.lines tl) _ (told_grows t b.lines tl) (delivered_grows s.settings s.session t b.delivery (all_told t b.lines tl))
+begin_grows : (flushing : Bool) (t : ℕ) (tl : Timeline) → Grows tl (flushed_at_begin flushing t tl)
+begin_grows true t tl = grows_one (At t 0 (FlushStart (flush_count (lane 0 tl)))) tl
+begin_grows false t tl = grows_same tl
 
-record_grows : (s : Profile) (older : List Timed) (r : Timed) (tl : Timeline) → Grows tl (with_record s older r tl)
-record_grows s older r tl =
-    grows_then tl (served s.settings (lane_count s older) r.time tl) _ (served_grows s.settings (lane_count s older) r.time tl) (brought_grows s r.time (brings s older r) (served s.settings (lane_count s older) r.time tl))
+begun_grows : (makes : Bool) (k : Standing) (t : ℕ) (tl : Timeline) → Grows tl (begun makes k t tl)
+begun_grows true k t tl = grows_then tl (At t 0 (Latency k.latency) ∷ tl) _ (grows_one (At t 0 (Latency k.latency)) tl) (begin_grows k.flushing t (At t 0 (Latency k.latency) ∷ tl))
+begun_grows false k t tl = grows_same tl
 
-timeline_grows : (s : Profile) (newer older : List Timed) → Grows (timeline s older) (timeline s (newer ++ older))
+brought_grows : (s : Profile) (k : Standing) (t : ℕ) (b : Brought) (tl : Timeline) → Grows tl (with_brought s k t b tl)
+brought_grows s k t b tl =
+    grows_then tl (all_told t b.lines tl) _ (told_grows t b.lines tl)
+    (grows_then (all_told t b.lines tl) (begun b.makes k t (all_told t b.lines tl)) _ (begun_grows b.makes k t (all_told t b.lines tl))
+    (delivered_grows s.settings s.session t b.delivery (begun b.makes k t (all_told t b.lines tl))))
+
+acted_grows : (t l : ℕ) (c : Control) (tl : Timeline) → Grows tl (acted t l c tl)
+acted_grows t l control.Clock tl = grows_same tl
+acted_grows t l control.FlushStart tl = grows_one (At t l (FlushStart (flush_count (lane l tl)))) tl
+acted_grows t l control.FlushStop tl = grows_one (At t l FlushStop) tl
+acted_grows t l (control.Latency ns) tl = grows_then tl (Told t (line.Latency t l ns) ∷ tl) _ (grows_one (Told t (line.Latency t l ns)) tl) (grows_one (At t l (Latency ns)) (Told t (line.Latency t l ns) ∷ tl))
+
+all_acted_grows : (t count : ℕ) (c : Control) (tl : Timeline) → Grows tl (all_acted t count c tl)
+all_acted_grows t zero c tl = grows_same tl
+all_acted_grows t (suc l) c tl =
+    grows_then tl (all_acted t l c tl) _ (all_acted_grows t l c tl)
+    (grows_then (all_acted t l c tl) (At t l (Clock t) ∷ all_acted t l c tl) _ (grows_one (At t l (Clock t)) (all_acted t l c tl)) (acted_grows t l c (At t l (Clock t) ∷ all_acted t l c tl)))
+
+all_ticked_grows : (s : Settings) (t count : ℕ) (tl : Timeline) → Grows tl (all_ticked s t count tl)
+all_ticked_grows s t zero tl = grows_same tl
+all_ticked_grows s t (suc l) tl = grows_then tl (all_ticked s t l tl) _ (all_ticked_grows s t l tl) (ticked_grows s t l (all_ticked s t l tl))
+
+controlled_grows : (s : Settings) (count : ℕ) (i : Item) (tl : Timeline) → Grows tl (controlled s count i tl)
+controlled_grows s count i tl =
+    grows_then tl (Came i.time ∷ tl) _ (grows_one (Came i.time) tl)
+    (grows_then (Came i.time ∷ tl) (all_acted i.time count i.control (Came i.time ∷ tl)) _ (all_acted_grows i.time count i.control (Came i.time ∷ tl))
+    (all_ticked_grows s i.time count (all_acted i.time count i.control (Came i.time ∷ tl))))
+
+input_grows : (s : Profile) (older : List Input) (x : Input) (tl : Timeline) → Grows tl (with_input s older x tl)
+input_grows s older (OfCapture r) tl =
+    grows_then tl (served s.settings (lanes_in s older) r.time tl) _ (served_grows s.settings (lanes_in s older) r.time tl)
+    (brought_grows s (standing s older) r.time (brings s (records_in older) r) (served s.settings (lanes_in s older) r.time tl))
+input_grows s older (OfScript i) tl =
+    grows_then tl (served s.settings (lanes_in s older) i.time tl) _ (served_grows s.settings (lanes_in s older) i.time tl)
+    (controlled_grows s.settings (lanes_in s older) i (served s.settings (lanes_in s older) i.time tl))
+
+timeline_grows : (s : Profile) (newer older : List Input) → Grows (timeline s older) (timeline s (newer ++ older))
 timeline_grows s [] older = grows_same (timeline s older)
-timeline_grows s (r ∷ newer) older =
-    grows_then (timeline s older) (timeline s (newer ++ older)) _ (timeline_grows s newer older) (record_grows s (newer ++ older) r (timeline s (newer ++ older)))
+timeline_grows s (x ∷ newer) older =
+    grows_then (timeline s older) (timeline s (newer ++ older)) _ (timeline_grows s newer older) (input_grows s (newer ++ older) x (timeline s (newer ++ older)))
 
 ended_grows : (s : Settings) (session t l : ℕ) (tl : Timeline) → Grows tl (ended s session t l tl)
 ended_grows s session t l tl =
@@ -88,16 +132,16 @@ all_ended_grows s session t (suc l) tl = grows_then tl (all_ended s session t l 
 closed_grows : (s : Profile) (lanes : ℕ) (tl : Timeline) → Grows tl (closed s lanes tl)
 closed_grows s lanes tl = grows_then tl (served s.settings lanes END_OF_TIME tl) _ (served_grows s.settings lanes END_OF_TIME tl) (all_ended_grows s.settings s.session _ lanes (served s.settings lanes END_OF_TIME tl))
 
-part_grows : (s : Profile) (rs more : List Timed) → Grows (timeline s (reverse rs)) (timeline s (reverse (rs ++ more)))
+part_grows : (s : Profile) (rs more : List Input) → Grows (timeline s (reverse rs)) (timeline s (reverse (rs ++ more)))
 part_grows s rs more =
-    subst (λ (xs : List Timed). Grows (timeline s (reverse rs)) (timeline s xs)) (sym (reverse-append rs more)) (timeline_grows s (reverse more) (reverse rs))
+    subst (λ (xs : List Input). Grows (timeline s (reverse rs)) (timeline s xs)) (sym (reverse-append rs more)) (timeline_grows s (reverse more) (reverse rs))
 
-pub part : (s : Profile) (rs more : List Timed) → Begins (log_part s rs) (log_part s (rs ++ more))
+pub part : (s : Profile) (rs more : List Input) → Begins (log_part s rs) (log_part s (rs ++ more))
 part s rs more = let g : Grows (timeline s (reverse rs)) (timeline s (reverse (rs ++ more))) = part_grows s rs more in (g.more, g.is)
 
-pub whole : (s : Profile) (rs more : List Timed) → Begins (log_part s rs) (log s (rs ++ more))
+pub whole : (s : Profile) (rs more : List Input) → Begins (log_part s rs) (log s (rs ++ more))
 whole s rs more =
-    let all : List Timed = reverse (rs ++ more) in
-    let g : Grows (timeline s (reverse rs)) (whole_timeline s all) = grows_then (timeline s (reverse rs)) (timeline s all) (whole_timeline s all) (part_grows s rs more) (closed_grows s (lane_count s all) (timeline s all)) in
-    let last : List BinLine = done_line (length (rs ++ more)) (lane_count s all) (lines (whole_timeline s all)) ∷ [] in
+    let all : List Input = reverse (rs ++ more) in
+    let g : Grows (timeline s (reverse rs)) (whole_timeline s all) = grows_then (timeline s (reverse rs)) (timeline s all) (whole_timeline s all) (part_grows s rs more) (closed_grows s (lanes_in s all) (timeline s all)) in
+    let last : List BinLine = done_line (length (records_in (rs ++ more))) (lanes_in s all) (lines (whole_timeline s all)) ∷ [] in
     (g.more ++ last, ap (λ (x : List BinLine). x ++ last) g.is ∙ append_assoc (log_part s rs) g.more last)

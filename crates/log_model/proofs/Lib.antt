@@ -4,4 +4,5 @@ pub mod Serving
 pub mod Growing
 pub mod Passing
 pub mod Bytes
+mod Examples
 pub mod Running

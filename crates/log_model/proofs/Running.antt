@@ -1,8 +1,8 @@
 -- Each lane of a replay is a run of the list machine.
-use Rattle.std.proofs.Common.{ℕ, zero, suc, ◌≡◌, ◌≢◌, ◌+◌, ◌-◌, ◌≤◌, ◌<◌, ◌^◌, true, ◌&&◌, not, refl, sym, ap, subst, ◌∙◌, List, [], ◌∷◌, Option, None, Some, length, drop, arith}
-use Rattle.std.specs.Prelude.{All, Result, Ok, Err, ◌==◌, slice_index, reverse}
+use Rattle.std.proofs.Common.{ℕ, zero, suc, ◌≡◌, ◌≢◌, ◌+◌, ◌-◌, ◌≤◌, ◌<◌, ◌^◌, Bool, true, false, ◌&&◌, not, refl, sym, ap, subst, ◌∙◌, List, [], ◌∷◌, ◌++◌, Option, None, Some, length, drop, arith}
+use Rattle.std.specs.Prelude.{All, Result, Ok, Err, ◌==◌, is_some, slice_index, reverse}
 use Rattle.std.proofs.lemmas.Grind.{common_steps}
-use Rattle.std.proofs.lemmas.List.{length-take, length-drop, length-reverse, reverse-append}
+use Rattle.std.proofs.lemmas.List.{length-take, length-drop, reverse-append}
 use Rattle.std.proofs.lemmas.List.Elements.{All-head, All-tail, All-cons, All-append}
 use Rattle.rtp_units.specs.declared.shared.Address.{Address}
 use Rattle.pcap_file.specs.Datagrams.{Sent, datagram_of}
@@ -14,21 +14,28 @@ use Rattle.jitter_model.specs.declared.Settings.{Settings}
 use Rattle.jitter_model.specs.declared.Packet.{Packet}
 use Rattle.jitter_model.specs.declared.Arrival.{Arrival}
 use Rattle.jitter_model.specs.declared.Entry.{Entry}
-use Rattle.jitter_model.specs.declared.Entry.TheVariants.{Clock, Turned}
+use Rattle.jitter_model.specs.declared.Entry.TheVariants.{Clock, FlushStart, FlushStop, Latency, Turned}
 use Rattle.jitter_model.specs.History.{History, pushes, is_pusher}
 use Rattle.jitter_model.specs.Turns.{turn, is_quiet}
-use Rattle.jitter_model.specs.Runs.{IsValid, IsInRange, Run}
+use Rattle.jitter_model.specs.Runs.{IsInRange, Run, flush_count}
 use Rattle.timeline.specs.declared.line.BinLine.{BinLine}
+use Rattle.timeline.specs.declared.line.BinLine.TheVariants as line
 use Rattle.log_model.specs.declared.TheConstants.{CONTROL}
+use Rattle.log_model.specs.declared.Control.{Control}
+use Rattle.log_model.specs.declared.Control.TheVariants as control
+use Rattle.log_model.specs.declared.Item.{Item}
 use Rattle.log_model.specs.declared.Profile.{Profile}
+use Rattle.log_model.specs.declared.Standing.{Standing}
 use Rattle.log_model.specs.declared.Heard.{Heard}
 use Rattle.log_model.specs.declared.Heard.TheVariants as heard
 use Rattle.log_model.specs.Times.{Timed}
-use Rattle.log_model.specs.Captured.{IsCaptured, pushers_of, IsProfile, IsReplay}
-use Rattle.log_model.specs.Front.{Brought, packet_from, heard_payload, heard_datagram, heard_of, source_of, lane_count, is_source, opening, brought}
-use Rattle.log_model.specs.Events.{Timeline, Told, At, lane}
-use Rattle.log_model.specs.Waking.{turned, turns, ticked, wake, rooms, serve, served, arrival_at, entry_of, pushed}
-use Rattle.log_model.specs.Log.{all_told, with_brought, timeline}
+use Rattle.log_model.specs.Inputs.{Input, OfCapture, OfScript, records_in}
+use Rattle.log_model.specs.Captured.{IsCaptured, IsControl, IsItem, IsInput, pushers_of, IsProfile, IsReplay}
+use Rattle.log_model.specs.Standings.{after_control, standing}
+use Rattle.log_model.specs.Front.{Brought, packet_from, heard_payload, heard_datagram, heard_of, source_of, is_source, opening, brought}
+use Rattle.log_model.specs.Events.{Timeline, Came, Told, At, lane}
+use Rattle.log_model.specs.Waking.{turned, turns, ticked, wake, rooms, serve, served, acted, all_acted, all_ticked, controlled, flushed_at_begin, begun, arrival_at, entry_of, pushed}
+use Rattle.log_model.specs.Log.{all_told, with_brought, lanes_in, timeline}
 use Rattle.jitter_model.specs.Verdicts.{pushed as reply_to_push}
 use Rattle.log_model.proofs.Bytes.{IsByte, Good, pick, datagram_good}
 use Rattle.log_model.proofs.Lanes.{lane_here, lane_other, by_cases}
@@ -128,6 +135,69 @@ told_ready : (s : Settings) (count t : ℕ) (xs : List BinLine) (tl : Timeline) 
 told_ready s count t [] tl h = h
 told_ready s count t (x ∷ xs) tl h = told_ready s count t xs (Told t x ∷ tl) (record { runs = h.runs; few = h.few })
 
+-- ---- calls of a script
+
+-- a call that is no push comes to a lane
+entry_ready : (s : Settings) (count t k : ℕ) (e : Entry) (tl : Timeline) → Run s (e ∷ lane k tl) → ((h : History) → pushes (e ∷ h) ≡ pushes h) → AreReady s count tl → AreReady s count (At t k e ∷ tl)
+entry_ready s count t k e tl run same h = record { runs = λ l. at_lane l; few = λ l. omega (arith, event_pushes t k l e tl same, h.few l) }
+  where
+    at_lane : (l : ℕ) → Run s (lane l (At t k e ∷ tl))
+    at_lane l =
+        by_cases (k == l)
+        (λ q. let eq : k ≡ l = grind (arith, common_steps) in subst (λ (m : ℕ). Run s (lane m (At t k e ∷ tl))) eq (subst (Run s) (sym (lane_here t k e tl)) run))
+        (λ q. let ne : k ≢ l = grind (arith, common_steps) in subst (Run s) (sym (lane_other t k l e tl ne)) (h.runs l))
+
+flush_ready : (s : Settings) (count t l : ℕ) (tl : Timeline) → AreReady s count tl → AreReady s count (At t l (FlushStart (flush_count (lane l tl))) ∷ tl)
+flush_ready s count t l tl h = entry_ready s count t l (FlushStart (flush_count (lane l tl))) tl (refl, h.runs l) (λ x. refl) h
+
+acted_ready : (s : Settings) (count t l : ℕ) (c : Control) (tl : Timeline) → IsControl c → AreReady s count tl → AreReady s count (acted t l c tl)
+acted_ready s count t l control.Clock tl ok h = h
+acted_ready s count t l control.FlushStart tl ok h = flush_ready s count t l tl h
+acted_ready s count t l control.FlushStop tl ok h = entry_ready s count t l FlushStop tl (h.runs l) (λ x. refl) h
+acted_ready s count t l (control.Latency ns) tl ok h =
+    let before : AreReady s count (Told t (line.Latency t l ns) ∷ tl) = record { runs = h.runs; few = h.few } in
+    entry_ready s count t l (Latency ns) (Told t (line.Latency t l ns) ∷ tl) (ok, h.runs l) (λ x. refl) before
+
+all_acted_ready : (s : Settings) (count t many : ℕ) (c : Control) (tl : Timeline) → t < 2 ^ 63 → IsControl c → AreReady s count tl → AreReady s count (all_acted t many c tl)
+all_acted_ready s count t zero c tl early ok h = h
+all_acted_ready s count t (suc l) c tl early ok h =
+    let before : AreReady s count (all_acted t l c tl) = all_acted_ready s count t l c tl early ok h in
+    let lt : t < 2 ^ 63 + 2 ^ 50 = omega arith in
+    acted_ready s count t l c (At t l (Clock t) ∷ all_acted t l c tl) ok (entry_ready s count t l (Clock t) (all_acted t l c tl) (lt, before.runs l) (λ x. refl) before)
+
+all_ticked_ready : (s : Settings) (count t many : ℕ) (tl : Timeline) → t < 2 ^ 63 → AreReady s count tl → AreReady s count (all_ticked s t many tl)
+all_ticked_ready s count t zero tl early h = h
+all_ticked_ready s count t (suc l) tl early h = ticked_ready s count t l (all_ticked s t l tl) early (all_ticked_ready s count t l tl early h)
+
+controlled_ready : (s : Settings) (count many : ℕ) (i : Item) (tl : Timeline) → IsItem i → AreReady s count tl → AreReady s count (controlled s many i tl)
+controlled_ready s count many i tl item h =
+    all_ticked_ready s count i.time many (all_acted i.time many i.control (Came i.time ∷ tl)) item.early
+    (all_acted_ready s count i.time many i.control (Came i.time ∷ tl) item.early item.control (record { runs = h.runs; few = h.few }))
+
+begin_ready : (s : Settings) (count t : ℕ) (flushing : Bool) (tl : Timeline) → AreReady s count tl → AreReady s count (flushed_at_begin flushing t tl)
+begin_ready s count t true tl h = flush_ready s count t 0 tl h
+begin_ready s count t false tl h = h
+
+begun_ready : (s : Settings) (count t : ℕ) (makes : Bool) (k : Standing) (tl : Timeline) → k.latency ≤ 600000000000 → AreReady s count tl → AreReady s count (begun makes k t tl)
+begun_ready s count t true k tl le h = begin_ready s count t k.flushing (At t 0 (Latency k.latency) ∷ tl) (entry_ready s count t 0 (Latency k.latency) tl (le, h.runs 0) (λ x. refl) h)
+begun_ready s count t false k tl le h = h
+
+-- the latency that a session has
+after_small : (c : Control) (k : Standing) → IsControl c → k.latency ≤ 600000000000 → (after_control c k).latency ≤ 600000000000
+after_small control.Clock k ok le = le
+after_small control.FlushStart k ok le = le
+after_small control.FlushStop k ok le = le
+after_small (control.Latency ns) k ok le = ok
+
+standing_small : (s : Profile) (xs : List Input) → IsProfile s → All IsInput xs → (standing s xs).latency ≤ 600000000000
+standing_small s [] profile all = profile.valid.latency_to
+standing_small s (OfCapture r ∷ older) profile all = standing_small s older profile (All-tail IsInput (OfCapture r) older all)
+standing_small s (OfScript i ∷ older) profile all =
+    let first : IsItem i = All-head IsInput (OfScript i) older all in
+    after_small i.control (standing s older) first.control (standing_small s older profile (All-tail IsInput (OfScript i) older all))
+
+-- ---- packets of the session
+
 -- the session and the script are pushers of the session's lane
 pub session_pushes : (session : ℕ) → session < 8 → is_pusher (pushers_of session) session ≡ true
 unfolding pushers_of
@@ -175,36 +245,59 @@ pushed_few s count t k l a tl le =
 more_ready : (s : Settings) (count : ℕ) (tl : Timeline) → AreReady s count tl → AreReady s (suc count) tl
 more_ready s count tl h = record { runs = h.runs; few = λ l. omega (arith, h.few l) }
 
-given_ready : (s : Profile) (count t : ℕ) (xs : List BinLine) (p : Packet) (tl : Timeline) → IsProfile s → t < 2 ^ 63 → count < 2147483648 → IsInRange (arrival_at s.session t p) → AreReady s.settings count tl → AreReady s.settings (suc count) (with_brought s t (record { lines = xs; delivery = Some (record { lane = 0; packet = p }) }) tl)
-given_ready s count t xs p tl profile early small range h =
-    let before : AreReady s.settings count (all_told t xs tl) = told_ready s.settings count t xs tl h in
+given_ready : (s : Profile) (k : Standing) (count t : ℕ) (xs : List BinLine) (makes : Bool) (p : Packet) (tl : Timeline) → IsProfile s → k.latency ≤ 600000000000 → t < 2 ^ 63 → count < 2147483648 → IsInRange (arrival_at s.session t p) → AreReady s.settings count tl → AreReady s.settings (suc count) (with_brought s k t (record { lines = xs; makes = makes; delivery = Some (record { lane = 0; packet = p }) }) tl)
+given_ready s k count t xs makes p tl profile le early small range h =
+    let to : Timeline = begun makes k t (all_told t xs tl) in
+    let before : AreReady s.settings count to = begun_ready s.settings count t makes k (all_told t xs tl) le (told_ready s.settings count t xs tl h) in
     let pusher : is_pusher s.settings.pushers s.session ≡ true = ap (λ (n : ℕ). is_pusher n s.session) profile.pushers ∙ session_pushes s.session profile.session in
-    ticked_ready s.settings (suc count) t 0 (pushed s.settings t 0 (arrival_at s.session t p) (all_told t xs tl)) early
+    ticked_ready s.settings (suc count) t 0 (pushed s.settings t 0 (arrival_at s.session t p) to) early
     (record {
-      runs = λ l. pushed_run s.settings s.session t 0 l p (all_told t xs tl) pusher range (omega (arith, before.few 0)) before.runs;
-      few = λ l. pushed_few s.settings count t 0 l (arrival_at s.session t p) (all_told t xs tl) (before.few l);
+      runs = λ l. pushed_run s.settings s.session t 0 l p to pusher range (omega (arith, before.few 0)) before.runs;
+      few = λ l. pushed_few s.settings count t 0 l (arrival_at s.session t p) to (before.few l);
     })
 
-brought_ready : (s : Profile) (older : List Timed) (r : Timed) (x : Heard) (tl : Timeline) → IsProfile s → r.time < 2 ^ 63 → length older < 2147483648 → Ranged s.session r.time x → AreReady s.settings (length older) tl → AreReady s.settings (suc (length older)) (with_brought s r.time (brought s older r x) tl)
-brought_ready s older r (heard.Skip why) tl profile early small range h = more_ready s.settings (length older) _ (record { runs = h.runs; few = h.few })
-brought_ready s older r (heard.Bad why) tl profile early small range h = more_ready s.settings (length older) _ (record { runs = h.runs; few = h.few })
-brought_ready s older r (heard.Packet source p) tl profile early small range h =
-    pick (λ (b : Brought). AreReady s.settings (suc (length older)) (with_brought s r.time b tl)) (is_source (source_of s (r ∷ older)) source) _ _
-    (λ _. given_ready s (length older) r.time (opening s r.time (source_of s older) source) p tl profile early small range.fact h)
+brought_ready : (s : Profile) (k : Standing) (older : List Timed) (r : Timed) (x : Heard) (tl : Timeline) → IsProfile s → k.latency ≤ 600000000000 → r.time < 2 ^ 63 → length older < 2147483648 → Ranged s.session r.time x → AreReady s.settings (length older) tl → AreReady s.settings (suc (length older)) (with_brought s k r.time (brought s older r x) tl)
+brought_ready s k older r (heard.Skip why) tl profile le early small range h = more_ready s.settings (length older) _ (record { runs = h.runs; few = h.few })
+brought_ready s k older r (heard.Bad why) tl profile le early small range h = more_ready s.settings (length older) _ (record { runs = h.runs; few = h.few })
+brought_ready s k older r (heard.Packet source p) tl profile le early small range h =
+    pick (λ (b : Brought). AreReady s.settings (suc (length older)) (with_brought s k r.time b tl)) (is_source (source_of s (r ∷ older)) source) _ _
+    (λ _. given_ready s k (length older) r.time (opening s r.time (source_of s older) source) (not (is_some (source_of s older))) p tl profile le early small range.fact h)
     (λ _. more_ready s.settings (length older) _ (record { runs = h.runs; few = h.few }))
 
-ready : (s : Profile) (rs : List Timed) → IsProfile s → length rs ≤ 2147483648 → All IsCaptured rs → AreReady s.settings (length rs) (timeline s rs)
+ready : (s : Profile) (xs : List Input) → IsProfile s → length (records_in xs) ≤ 2147483648 → All IsInput xs → AreReady s.settings (length (records_in xs)) (timeline s xs)
 ready s [] profile few all = record { runs = λ l. profile.valid; few = λ l. omega arith }
-ready s (r ∷ older) profile few all =
-    let first : IsCaptured r = All-head IsCaptured r older all in
-    brought_ready s older r (heard_of s r.captured) (served s.settings (lane_count s older) r.time (timeline s older)) profile first.early (omega arith) (heard_ranged s r profile.session first)
-    (served_ready s.settings (length older) (lane_count s older) r.time (timeline s older) first.early (ready s older profile (omega arith) (All-tail IsCaptured r older all)))
+ready s (OfCapture r ∷ older) profile few all =
+    let first : IsCaptured r = All-head IsInput (OfCapture r) older all in
+    let rest : All IsInput older = All-tail IsInput (OfCapture r) older all in
+    brought_ready s (standing s older) (records_in older) r (heard_of s r.captured) (served s.settings (lanes_in s older) r.time (timeline s older)) profile (standing_small s older profile rest) first.early (omega arith) (heard_ranged s r profile.session first)
+    (served_ready s.settings (length (records_in older)) (lanes_in s older) r.time (timeline s older) first.early (ready s older profile (omega arith) rest))
+ready s (OfScript i ∷ older) profile few all =
+    let first : IsItem i = All-head IsInput (OfScript i) older all in
+    let rest : All IsInput older = All-tail IsInput (OfScript i) older all in
+    controlled_ready s.settings (length (records_in older)) (lanes_in s older) i (served s.settings (lanes_in s older) i.time (timeline s older)) first
+    (served_ready s.settings (length (records_in older)) (lanes_in s older) i.time (timeline s older) first.early (ready s older profile few rest))
 
-all_reverse : (rs : List Timed) → All IsCaptured rs → All IsCaptured (reverse rs)
+all_reverse : (xs : List Input) → All IsInput xs → All IsInput (reverse xs)
 all_reverse [] h = h
-all_reverse (r ∷ rs) h =
-    subst (All IsCaptured) (sym (reverse-append (r ∷ []) rs))
-    (All-append IsCaptured (reverse rs) (r ∷ []) (all_reverse rs (All-tail IsCaptured r rs h)) (All-cons IsCaptured r [] (All-head IsCaptured r rs h) (λ k d lt. absurd (omega arith))))
+all_reverse (x ∷ xs) h =
+    subst (All IsInput) (sym (reverse-append (x ∷ []) xs))
+    (All-append IsInput (reverse xs) (x ∷ []) (all_reverse xs (All-tail IsInput x xs h)) (All-cons IsInput x [] (All-head IsInput x xs h) (λ k d lt. absurd (omega arith))))
 
-pub lanes_run : (s : Profile) (rs : List Timed) → IsReplay s rs → (l : ℕ) → Run s.settings (lane l (timeline s (reverse rs)))
-lanes_run s rs h = (ready s (reverse rs) h.profile (omega (arith, length-reverse rs, h.few)) (all_reverse rs h.captured)).runs
+-- as many records, the other way round
+records_append : (xs ys : List Input) → length (records_in (xs ++ ys)) ≡ length (records_in xs) + length (records_in ys)
+records_append [] ys = omega arith
+records_append (OfCapture r ∷ xs) ys = omega (arith, records_append xs ys)
+records_append (OfScript i ∷ xs) ys = records_append xs ys
+
+records_reverse : (xs : List Input) → length (records_in (reverse xs)) ≡ length (records_in xs)
+records_reverse [] = refl
+records_reverse (x ∷ xs) =
+    ap (λ (ys : List Input). length (records_in ys)) (reverse-append (x ∷ []) xs) ∙ records_append (reverse xs) (x ∷ []) ∙ ap (λ (n : ℕ). n + length (records_in (x ∷ []))) (records_reverse xs)
+    ∙ one x
+  where
+    one : (x : Input) → length (records_in xs) + length (records_in (x ∷ [])) ≡ length (records_in (x ∷ xs))
+    one (OfCapture r) = omega arith
+    one (OfScript i) = omega arith
+
+pub lanes_run : (s : Profile) (xs : List Input) → IsReplay s xs → (l : ℕ) → Run s.settings (lane l (timeline s (reverse xs)))
+lanes_run s xs h = (ready s (reverse xs) h.profile (omega (arith, records_reverse xs, h.few)) (all_reverse xs h.each)).runs

@@ -12,8 +12,9 @@ use Rattle.timeline.specs.declared.line.BinLine.{BinLine}
 use Rattle.timeline.specs.declared.line.BinLine.TheVariants as told
 use Rattle.timeline.specs.declared.line.Word.TheVariants as word
 
--- at a time the front told a line; or in a lane this call came, with its reply
+-- at a time an item of the script came; the front told a line; or in a lane this call came, with its reply
 pub data Event : Type 0 where
+  Came : ℕ → Event
   Told : ℕ → BinLine → Event
   At : ℕ → ℕ → Entry → Event
 
@@ -24,10 +25,12 @@ Timeline = List Event
 -- the history of a lane: its calls with their replies. A lane that isn't there has none
 abbrev pub lane : ℕ → Timeline → History
 lane l [] = []
+lane l (Came t ∷ tl) = lane l tl
 lane l (Told t x ∷ tl) = lane l tl
 lane l (At t k e ∷ tl) = if k == l then e ∷ lane l tl else lane l tl
 
 abbrev pub event_time : Event → ℕ
+event_time (Came t) = t
 event_time (Told t x) = t
 event_time (At t l e) = t
 
@@ -61,12 +64,16 @@ verdict_lines t l seq kind verdict.Ended = told.Refuse t l seq kind word.Ended �
 abbrev pub dropped_lines : ℕ → ℕ → ℕ → List BinLine
 dropped_lines t l count = if count == 0 then [] else told.Unaside t l count ∷ []
 
+-- That a latency was set the front tells, where an item sets it: with the one that a lane begins with no line is told.
 abbrev pub entry_lines : ℕ → ℕ → Entry → List BinLine
 entry_lines t l (call.Push a v n dropped) = dropped_lines t l dropped ++ verdict_lines t l a.packet.seq a.origin v
 entry_lines t l (call.Turned r) = turn_lines t l r
+entry_lines t l (call.FlushStart count) = told.Flush t l count ∷ []
+entry_lines t l call.FlushStop = told.Flushed t l ∷ []
 entry_lines t l e = []
 
 abbrev pub event_lines : Event → List BinLine
+event_lines (Came t) = []
 event_lines (Told t x) = x ∷ []
 event_lines (At t l e) = entry_lines t l e
 

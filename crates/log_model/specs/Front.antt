@@ -78,13 +78,14 @@ pub record Delivery : Type 0 where
   pub lane : ℕ
   pub packet : Packet
 
--- the lines that the front tells of a record, and the packet that it gives to a lane
+-- the lines that the front tells of a record, whether it makes the lane, and the packet that it gives to a lane
 pub record Brought : Type 0 where
   pub lines : List BinLine
+  pub makes : Bool
   pub delivery : Option Delivery
 
 abbrev pub skipped : ℕ → ℕ → Word → Brought
-skipped time number reason = record { lines = told.Skip time number reason ∷ []; delivery = None }
+skipped time number reason = record { lines = told.Skip time number reason ∷ []; makes = false; delivery = None }
 
 -- the first packet makes a lane
 abbrev pub opening : Profile → ℕ → Option Source → Source → List BinLine
@@ -95,12 +96,12 @@ opening s time None source = told.Pt time s.session s.payload_type s.settings.ra
 abbrev pub brought_packet : Profile → List Timed → Timed → Source → Packet → Brought
 brought_packet s older r source p =
     if is_source (source_of s (r ∷ older)) source
-    then record { lines = opening s r.time (source_of s older) source; delivery = Some (record { lane = 0; packet = p }) }
+    then record { lines = opening s r.time (source_of s older) source; makes = not (is_some (source_of s older)); delivery = Some (record { lane = 0; packet = p }) }
     else skipped r.time (length older + 1) word.Unbuilt
 
 abbrev pub brought : Profile → List Timed → Timed → Heard → Brought
 brought s older r (heard.Skip why) = skipped r.time (length older + 1) why
-brought s older r (heard.Bad why) = record { lines = told.Bad r.time s.session why ∷ []; delivery = None }
+brought s older r (heard.Bad why) = record { lines = told.Bad r.time s.session why ∷ []; makes = false; delivery = None }
 brought s older r (heard.Packet source p) = brought_packet s older r source p
 
 -- what a record brings after these ones; records count from 1

@@ -1,17 +1,23 @@
--- How a timeline goes on: turns, wakes, packets and ends.
-use Rattle.std.specs.Prelude.{ℕ, zero, suc, ◌+◌, ◌-◌, ◌∷◌, Option, Some, None, nat_lt, nat_le, if◌then◌else◌}
+-- How a timeline goes on: turns, wakes, packets, items and ends.
+use Rattle.std.specs.Prelude.{ℕ, zero, suc, ◌+◌, ◌-◌, ◌∷◌, Bool, true, false, Option, Some, None, nat_lt, nat_le, if◌then◌else◌}
 use Rattle.jitter_model.specs.declared.Arrival.{Arrival}
 use Rattle.jitter_model.specs.declared.Origin.TheVariants.{Original}
 use Rattle.jitter_model.specs.declared.Packet.{Packet}
 use Rattle.jitter_model.specs.declared.Pushed.{Pushed}
 use Rattle.jitter_model.specs.declared.Settings.{Settings}
 use Rattle.jitter_model.specs.declared.Entry.{Entry}
-use Rattle.jitter_model.specs.declared.Entry.TheVariants.{Push, Clock, Ends, Turned}
+use Rattle.jitter_model.specs.declared.Entry.TheVariants.{Push, Clock, FlushStart, FlushStop, Latency, Ends, Turned}
+use Rattle.jitter_model.specs.Runs.{flush_count}
 use Rattle.jitter_model.specs.Verdicts.{pushed as reply_to_push}
 use Rattle.jitter_model.specs.Turns.{turn, is_quiet, wake_of, left}
+use Rattle.timeline.specs.declared.line.BinLine.TheVariants as line
 use Rattle.log_model.specs.declared.TheConstants.{CONTROL}
+use Rattle.log_model.specs.declared.Control.{Control}
+use Rattle.log_model.specs.declared.Control.TheVariants as control
+use Rattle.log_model.specs.declared.Item.{Item}
+use Rattle.log_model.specs.declared.Standing.{Standing}
 use Rattle.log_model.specs.Front.{Delivery}
-use Rattle.log_model.specs.Events.{Timeline, At, lane}
+use Rattle.log_model.specs.Events.{Timeline, Came, Told, At, lane}
 
 -- ---- turns
 
@@ -81,6 +87,44 @@ serve (suc n) s count limit tl = serve_due (serve n s count limit) s (due limit 
 -- wakes of the first lanes up to a limit, in order of time and lane, until none is due: there are no more than `rooms` says
 abbrev pub served : Settings → ℕ → ℕ → Timeline → Timeline
 served s count limit tl = serve (rooms limit (wake s tl) count) s count limit tl
+
+-- ---- items
+
+-- a lane's flush begins
+abbrev pub flush_begun : ℕ → ℕ → Timeline → Timeline
+flush_begun t l tl = At t l (FlushStart (flush_count (lane l tl))) ∷ tl
+
+-- what a script does to a lane
+abbrev pub acted : ℕ → ℕ → Control → Timeline → Timeline
+acted t l control.Clock tl = tl
+acted t l control.FlushStart tl = flush_begun t l tl
+acted t l control.FlushStop tl = At t l FlushStop ∷ tl
+acted t l (control.Latency ns) tl = At t l (Latency ns) ∷ Told t (line.Latency t l ns) ∷ tl
+
+-- to the first lanes, in order; each one's clock comes to the time before
+abbrev pub all_acted : ℕ → ℕ → Control → Timeline → Timeline
+all_acted t zero c tl = tl
+all_acted t (suc l) c tl = acted t l c (At t l (Clock t) ∷ all_acted t l c tl)
+
+-- the clocks of the first lanes come to a time, and they take turns, in order
+abbrev pub all_ticked : Settings → ℕ → ℕ → Timeline → Timeline
+all_ticked s t zero tl = tl
+all_ticked s t (suc l) tl = ticked s t l (all_ticked s t l tl)
+
+-- an item comes to the first lanes, and then they take turns
+abbrev pub controlled : Settings → ℕ → Item → Timeline → Timeline
+controlled s count i tl = all_ticked s i.time count (all_acted i.time count i.control (Came i.time ∷ tl))
+
+-- ---- the begin of a lane
+
+abbrev pub flushed_at_begin : Bool → ℕ → Timeline → Timeline
+flushed_at_begin true t tl = flush_begun t 0 tl
+flushed_at_begin false t tl = tl
+
+-- a lane that is made begins with the latency that its session has, and in its flush
+abbrev pub begun : Bool → Standing → ℕ → Timeline → Timeline
+begun true k t tl = flushed_at_begin k.flushing t (At t 0 (Latency k.latency) ∷ tl)
+begun false k t tl = tl
 
 -- ---- packets
 

@@ -1,26 +1,44 @@
-//! Laws of the log. Each function's contract is a law, for all settings and all lists of records. The
+//! Laws of the log. Each function's contract is a law, for all settings and all lists of inputs. The
 //! functions do nothing.
-ghost use Rattle.std.specs.Prelude.{◌≡◌, ◌<◌, ◌++◌, ◌∷◌, ℕ, List, [], true, false, Some, None, reverse};
+ghost use Rattle.std.specs.Prelude.{◌≡◌, ◌<◌, ◌≤◌, max, ◌++◌, ◌∷◌, ℕ, List, [], true, false, Some, None, map, reverse};
 ghost use Rattle.jitter_model.specs.declared.Settings.{Settings};
 ghost use Rattle.jitter_model.specs.Turns.{turn, is_quiet};
 ghost use Rattle.jitter_model.specs.Runs.{Run};
 ghost use Rattle.pcap_file.specs.Capture.{Record};
 ghost use Rattle.log_model.specs.Times.{Timed, at_times, timed_after};
+ghost use Rattle.log_model.specs.Inputs.{Input, OfCapture, OfScript, items_to, inputs, items_left, all_inputs, records_in, items_in};
+ghost use Rattle.log_model.specs.declared.Item.{Item};
 ghost use Rattle.log_model.specs.declared.Profile.{Profile};
 ghost use Rattle.log_model.specs.declared.Source.{Source};
 ghost use Rattle.log_model.specs.Front.{source_of};
-ghost use Rattle.log_model.specs.Events.{Timeline, lane};
+ghost use Rattle.log_model.specs.Events.{Timeline, lane, latest};
 ghost use Rattle.log_model.specs.Waking.{turned, settled, ticked, wake, Wake, first_wake, due, served};
 ghost use Rattle.log_model.specs.Log.{timeline, log_part, log, Begins};
 ghost use Rattle.log_model.specs.Captured.{IsReplay};
 ghost use Rattle.log_model.specs.declared.TheConstants.{END_OF_TIME as LAST};
 
-/// Without records nothing is told. What is told of some records begins what is told of them and more,
-/// and the whole log of these.
+/// Without inputs nothing is told. What is told of some inputs begins what is told of them and more, and the
+/// whole log of these.
 pub fn goes_on()
     ensures none { (s : Profile) → log_part s [] ≡ [] }
-    ensures part { (s : Profile) (rs more : List Timed) → Begins (log_part s rs) (log_part s (rs ++ more)) }
-    ensures whole { (s : Profile) (rs more : List Timed) → Begins (log_part s rs) (log s (rs ++ more)) }
+    ensures part { (s : Profile) (xs more : List Input) → Begins (log_part s xs) (log_part s (xs ++ more)) }
+    ensures whole { (s : Profile) (xs more : List Input) → Begins (log_part s xs) (log s (xs ++ more)) }
+{}
+
+/// The inputs of some records begin those of them and more. The next record comes behind the items up to its
+/// time, and the items behind it are left.
+pub fn inputs_go_on()
+    ensures none { (items : List Item) → inputs items [] ≡ [] }
+    ensures more { (items : List Item) (rs more : List Timed) → inputs items (rs ++ more) ≡ inputs items rs ++ inputs (items_left items rs) more }
+    ensures next { (items : List Item) (rs : List Timed) (r : Timed) → inputs items (rs ++ r ∷ []) ≡ (inputs items rs ++ map OfScript (items_to r.time (items_left items rs))) ++ OfCapture r ∷ [] }
+    ensures left { (items : List Item) (rs more : List Timed) → items_left items (rs ++ more) ≡ items_left (items_left items rs) more }
+{}
+
+/// All records come, and all items, each once and in their order.
+pub fn all_come()
+    ensures part { (items : List Item) (rs : List Timed) → records_in (inputs items rs) ≡ rs }
+    ensures records { (items : List Item) (rs : List Timed) → records_in (all_inputs items rs) ≡ rs }
+    ensures items { (items : List Item) (rs : List Timed) → items_in (all_inputs items rs) ≡ items }
 {}
 
 /// A record's time hangs on it and the records before it alone.
@@ -48,13 +66,19 @@ pub fn serves_all()
     ensures step { (s : Settings) (count limit : ℕ) (tl : Timeline) (w : Wake) → due limit (first_wake (wake s tl) count) ≡ Some w → served s count limit tl ≡ served s count limit (ticked s w.time w.lane tl) }
 {}
 
-/// In a replay of captured records each lane is a run of the list machine.
+/// After a tick the latest time is at least the tick's, and wakes up to a limit leave no later time than that.
+pub fn time_goes_on()
+    ensures tick { (s : Settings) (t l : ℕ) (tl : Timeline) → latest (ticked s t l tl) ≡ max t (latest tl) }
+    ensures served { (s : Settings) (count limit : ℕ) (tl : Timeline) → latest (served s count limit tl) ≤ max limit (latest tl) }
+{}
+
+/// In a replay each lane is a run of the list machine.
 pub fn lanes_are_runs()
-    ensures { (s : Profile) (rs : List Timed) → IsReplay s rs → (l : ℕ) → Run s.settings (lane l (timeline s (reverse rs))) }
+    ensures { (s : Profile) (xs : List Input) → IsReplay s xs → (l : ℕ) → Run s.settings (lane l (timeline s (reverse xs))) }
 {}
 
 /// After the wakes that are served at the end no lane has one: every wake of a run is below that limit.
 pub fn leaves_no_wake()
     ensures runs { (s : Settings) (count : ℕ) (tl : Timeline) → ((l : ℕ) → l < count → Run s (lane l tl)) → first_wake (wake s (served s count LAST tl)) count ≡ None }
-    ensures replay { (s : Profile) (rs : List Timed) → IsReplay s rs → (count : ℕ) → first_wake (wake s.settings (served s.settings count LAST (timeline s (reverse rs)))) count ≡ None }
+    ensures replay { (s : Profile) (xs : List Input) → IsReplay s xs → (count : ℕ) → first_wake (wake s.settings (served s.settings count LAST (timeline s (reverse xs)))) count ≡ None }
 {}

@@ -1,5 +1,5 @@
-//! The log of a replay, defined on the whole list of a capture's records (`specs/`), and the values that
-//! the definition shares with the program. `docs/LOG.md` tells the same rules in prose. The laws of the
+//! The log of a replay, defined on the whole lists of a capture's records and a script's items (`specs/`),
+//! and the values that the definition shares with the program. `docs/LOG.md` tells the same rules in prose. The laws of the
 //! definition are the contracts of [`laws`].
 #![tactic(auto)]
 
@@ -30,6 +30,35 @@ pub struct Profile {
     pub own_ssrc: u32,
     /// The settings of its lane, whose pushers are the session and the script.
     pub settings: Settings,
+}
+
+/// What a script does to its session at a time.
+#[derive(Clone, Copy, Debug, PartialEq, Eq, Drop)]
+pub enum Control {
+    /// The time goes on.
+    Clock,
+    /// A flush begins.
+    FlushStart,
+    /// It ends.
+    FlushStop,
+    /// From now on this is the latency in nanoseconds, at most 600 seconds.
+    Latency(u64),
+}
+
+/// Something that a script does at a time in nanoseconds.
+#[derive(Clone, Copy, Debug, PartialEq, Eq, Drop)]
+pub struct Item {
+    pub time: u64,
+    pub control: Control,
+}
+
+/// How the session stands by the items so far: a lane that is made begins so.
+#[derive(Clone, Copy, Debug, PartialEq, Eq, Drop)]
+pub struct Standing {
+    /// The latency in nanoseconds.
+    pub latency: u64,
+    /// Whether a flush runs.
+    pub flushing: bool,
 }
 
 /// Who sends a stream.

@@ -5,7 +5,7 @@ use Rattle.hex.specs.Hex.{encode_lower}
 use Rattle.jitter_model.specs.declared.Origin.{Origin}
 use Rattle.jitter_model.specs.declared.Origin.TheVariants.{Original, Retransmission}
 use Rattle.timeline.specs.declared.line.BinLine.{BinLine}
-use Rattle.timeline.specs.declared.line.BinLine.TheVariants.{Skip, Bad, Pt, Lane, Unaside, Aside, Restart, Refuse, Out, Lost, Request, End, Done}
+use Rattle.timeline.specs.declared.line.BinLine.TheVariants.{Skip, Bad, Pt, Lane, Unaside, Aside, Restart, Refuse, Out, Lost, Request, Flush, Flushed, Latency, End, Done}
 use Rattle.timeline.specs.declared.line.Word.{Word}
 use Rattle.timeline.specs.declared.line.Word.TheVariants as word
 
@@ -70,6 +70,9 @@ line_words (Out time lane number pts pt marker len bytes) =
 line_words (Lost time lane number count pts duration) =
     decimal time ++ codes " lost " ++ decimal lane ++ codes " " ++ decimal number ++ codes " " ++ decimal count ++ codes " " ++ decimal pts ++ codes " " ++ decimal duration
 line_words (Request time lane number k) = decimal time ++ codes " request " ++ decimal lane ++ codes " " ++ decimal number ++ codes " " ++ decimal k
+line_words (Flush time lane count) = decimal time ++ codes " flush " ++ decimal lane ++ codes " " ++ decimal count
+line_words (Flushed time lane) = decimal time ++ codes " flushed " ++ decimal lane
+line_words (Latency time lane ns) = decimal time ++ codes " latency " ++ decimal lane ++ codes " " ++ decimal ns
 line_words (End time lane) = decimal time ++ codes " end " ++ decimal lane
 line_words (Done records lanes out lost refused) =
     codes "done " ++ decimal records ++ codes " " ++ decimal lanes ++ codes " " ++ fates_text out lost refused

@@ -93,6 +93,9 @@ impl fmt::Display for Words<'_> {
                 number,
                 k,
             } => { write!(f, "{time} request {lane} {number} {k}") }
+            BinLine::Flush { time, lane, count } => write!(f, "{time} flush {lane} {count}"),
+            BinLine::Flushed { time, lane } => write!(f, "{time} flushed {lane}"),
+            BinLine::Latency { time, lane, ns } => write!(f, "{time} latency {lane} {ns}"),
             BinLine::End { time, lane } => write!(f, "{time} end {lane}"),
             BinLine::Done {
                 records,

@@ -3,7 +3,7 @@ use Rattle.std.proofs.Common.{◌≡◌, ℕ, ◌-◌, List, [], ◌∷◌, ◌+
 use Rattle.std.specs.Prelude.{max, unwrap_or}
 use Rattle.pcap_file.specs.Capture.{Record}
 use Rattle.std.proofs.lemmas.List.{append_assoc, append-nil}
-use Rattle.log_model.specs.Times.{Timed, at_times_after, timed_after, greatest_since, time_after}
+use Rattle.log_model.specs.Times.{Timed, at_times, at_times_after, timed_after, greatest_since, time_after}
 use Rattle.rtpbin_cli.specs.declared.clock.RecordClock.{RecordClock}
 use Rattle.rtpbin_cli.specs.Clock.{HasPassed}
 
@@ -29,3 +29,7 @@ pub times_onto : (before xs ys : List Record) → at_times_after before (xs ++ y
 times_onto before [] ys = ap (λ (l : List Record). at_times_after l ys) (sym (append-nil before))
 times_onto before (x ∷ xs) ys =
     ap (λ (ts : List Timed). timed_after before x ∷ ts) (times_onto (before ++ x ∷ []) xs ys ∙ ap (λ (l : List Record). at_times_after (before ++ x ∷ []) xs ++ at_times_after l ys) (append_assoc before (x ∷ []) xs))
+
+-- and of one record more
+pub times_next : (seen : List Record) (r : Record) → at_times (seen ++ r ∷ []) ≡ at_times seen ++ timed_after seen r ∷ []
+times_next seen r = times_onto [] seen (r ∷ [])

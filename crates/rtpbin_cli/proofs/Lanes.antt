@@ -1,10 +1,8 @@
 -- The profile of a script that is built is in its ranges.
 use Rattle.std.proofs.Common.{◌≡◌, ℕ, zero, suc, ◌<◌, ◌*◌, ◌/◌, ◌%◌, ◌≤◌, Bool, true, false, List, [], ◌∷◌, Option, Some, None, refl, sym, ap, ◌∙◌, arith, lit<}
-use Rattle.std.specs.Prelude.{◌==◌, ◌&&◌, not, nat_le, nat_lt, ◌^◌, option_map, if◌then◌else◌}
+use Rattle.std.specs.Prelude.{◌==◌, ◌&&◌, nat_le, nat_lt, ◌^◌, if◌then◌else◌}
 use Rattle.std.specs.List.{list_all}
 use Rattle.std.proofs.lemmas.Bool.{and_parts, eqb-true, leb-true}
-use Rattle.jitter_model.specs.Runs.{IsValid}
-use Rattle.log_model.specs.declared.Profile.{Profile}
 use Rattle.log_model.specs.Captured.{pushers_of, IsProfile}
 use Rattle.script_lang.specs.declared.script.PtLine.{PtLine}
 use Rattle.script_lang.specs.declared.script.SessionLine.{SessionLine}
@@ -17,7 +15,7 @@ within : (least most n : ℕ) → is_within least most n ≡ true → (least ≤
 within least most n h = let both = and_parts (nat_le least n) (nat_le n most) h in (leb-true least n both.0, leb-true n most both.1)
 
 -- in nanoseconds
-time_within : (least most ns : ℕ) → is_time_within least most ns ≡ true → (1000000 * least ≤ ns) × (ns ≤ 1000000 * most)
+pub time_within : (least most ns : ℕ) → is_time_within least most ns ≡ true → (1000000 * least ≤ ns) × (ns ≤ 1000000 * most)
 time_within least most ns h =
     let both = and_parts (ns % 1000000 == 0) (is_within least most (ns / 1000000)) h in
     let rest : ns % 1000000 ≡ 0 = eqb-true (ns % 1000000) 0 both.0 in

@@ -2,9 +2,11 @@ pub mod Forms
 pub mod Progress
 pub mod Printing
 pub mod Clocks
+pub mod Lanes
+pub mod Items
+pub mod Playing
 pub mod Replaying
 pub mod Dumping
 pub mod Scripts
-pub mod Lanes
 pub mod Running
 pub mod Ending

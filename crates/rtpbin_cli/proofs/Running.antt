@@ -6,21 +6,20 @@ use Rattle.std.proofs.lemmas.Slice.Eq.{bytes_eq-Decides}
 use Rattle.rtp_io.specs.Outside.{Disk, SameDisk, IsOpened, IsClosed, Adds, AddsFront}
 use Rattle.rtp_io.specs.Laws.{told_then, adds_none, adds_same}
 use Rattle.pcap_file.specs.Capture.{capture_of}
-use Rattle.log_model.specs.declared.Profile.{Profile}
 use Rattle.rtpbin_cli.specs.declared.script.ScriptFault.{ScriptFault}
 use Rattle.rtpbin_cli.specs.declared.stop.Stop.{Stop}
 use Rattle.rtpbin_cli.specs.declared.stop.Stop.TheVariants as stop
 use Rattle.rtpbin_cli.specs.Words.{Form, Replay, Dump, capture_name}
+use Rattle.rtpbin_cli.specs.Chosen.{Chosen}
 use Rattle.rtpbin_cli.specs.Script.{script_of}
 use Rattle.rtpbin_cli.specs.Output.{Output, output_of}
 use Rattle.rtpbin_cli.specs.Commands.{output_by, replay_by, replay_output}
 use Rattle.rtpbin_cli.specs.Outcome.{AreBytes, BadScript, Written, want_from, given_from, stop_from, wanted_of, out_of, stop_of, given_of, part_from, read_out}
 use Rattle.rtpbin_cli.specs.Steps.{ReadsScript, Covers, Runs}
 use Rattle.rtpbin_cli.specs.Dump.{dump_output}
-use Rattle.rtpbin_cli.proofs.Progress.{GoesOn}
-use Rattle.rtpbin_cli.proofs.Replaying.{replay_goes_on}
+use Rattle.rtpbin_cli.proofs.Replaying.{part_none as none_of_replay}
 use Rattle.rtpbin_cli.proofs.Dumping.{dump_goes_on}
-use Rattle.rtpbin_cli.proofs.Scripts.{begins_no_capture, no_records}
+use Rattle.rtpbin_cli.proofs.Scripts.{BeginsNoCapture, begins_no_capture, no_records}
 
 front_none : (p : List ℕ) (a : Option (List ℕ)) → AddsFront p a a
 front_none p a = (0, zero-le, adds_none a)
@@ -36,55 +35,55 @@ part_none (Ok output) given none = let here = none output refl in ap output.part
 given_closed : (name : List ℕ) (after : Disk) → after.opened ≡ None → given_of name after ≡ []
 given_closed name after closed = ap (λ (o : Option (List ℕ)). given_from name after o) closed
 
--- what each command sends out goes on
-pub each_goes_on : (contents : List ℕ → List ℕ) (form : Form) (output : Output) → output_by contents form ≡ Ok output → GoesOn output
-each_goes_on contents (Dump capture) output is = let e : dump_output ≡ output = cc in subst GoesOn e dump_goes_on
-each_goes_on contents (Replay hex capture script) output is = at (script_of (contents script)) is
+-- without records nothing goes out
+none_of_each : (contents : List ℕ → List ℕ) (form : Form) (output : Output) → output_by contents form ≡ Ok output → output.part [] ≡ []
+none_of_each contents (Dump capture) output is = let e : dump_output ≡ output = cc in subst (λ (o : Output). o.part [] ≡ []) e dump_goes_on.none
+none_of_each contents (Replay hex capture script) output is = at (script_of (contents script)) is
   where
-    at : (read : Result Profile ScriptFault) → replay_by hex read ≡ Ok output → GoesOn output
-    at (Ok profile) e = let same : replay_output hex profile ≡ output = cc in subst GoesOn same (replay_goes_on hex profile)
+    at : (read : Result Chosen ScriptFault) → replay_by hex read ≡ Ok output → output.part [] ≡ []
+    at (Ok chosen) e = let same : replay_output hex chosen ≡ output = cc in subst (λ (o : Output). o.part [] ≡ []) same (none_of_replay hex chosen)
     at (Err fault) e = absurd cc
 
 read_closed : (form : Form) (after : Disk) → after.opened ≡ None → read_out (Some form) after ≡ []
 read_closed form after closed =
     ap (part_from (output_by after.contents form)) (given_closed (capture_name form) after closed)
-    ∙ part_none (output_by after.contents form) [] (λ output is. ((each_goes_on after.contents form output is).none, no_records [] (omega arith)))
+    ∙ part_none (output_by after.contents form) [] (λ output is. (none_of_each after.contents form output is, no_records [] (omega arith)))
 
 -- the script is open, and perhaps it is the capture too
-script_given : (capture script : List ℕ) (profile : Profile) (after : Disk) → AreBytes (after.contents capture) → after.opened ≡ Some script → script_of (after.contents script) ≡ Ok profile → (capture_of (given_of capture after)).records ≡ []
-script_given capture script profile after bytes opened is =
+script_given : BeginsNoCapture → (capture script : List ℕ) (chosen : Chosen) (after : Disk) → AreBytes (after.contents capture) → after.opened ≡ Some script → script_of (after.contents script) ≡ Ok chosen → (capture_of (given_of capture after)).records ≡ []
+script_given law capture script chosen after bytes opened is =
     ap (λ (o : Option (List ℕ)). (capture_of (given_from capture after o)).records) opened ∙ at (bytes_eq script capture) refl
   where
     at : (b : Bool) → bytes_eq script capture ≡ b → (capture_of (if b then take (length (after.contents capture) - length after.left) (after.contents capture) else [])).records ≡ []
-    at true same = begins_no_capture (after.contents capture) profile (length (after.contents capture) - length after.left) bytes (subst (λ (n : List ℕ). script_of (after.contents n) ≡ Ok profile) ((bytes_eq-Decides script capture).0 same) is)
+    at true same = begins_no_capture law (after.contents capture) chosen (length (after.contents capture) - length after.left) bytes (subst (λ (n : List ℕ). script_of (after.contents n) ≡ Ok chosen) ((bytes_eq-Decides script capture).0 same) is)
     at false same = no_records [] (omega arith)
 
--- where a replay has an output, its script has a profile
-profile_by : (hex : Bool) (read : Result Profile ScriptFault) (output : Output) → replay_by hex read ≡ Ok output → (profile : Profile) × (read ≡ Ok profile)
-profile_by hex (Ok profile) output is = (profile, refl)
-profile_by hex (Err fault) output is = absurd cc
+-- where a replay has an output, its script has no fault
+chosen_by : (hex : Bool) (read : Result Chosen ScriptFault) (output : Output) → replay_by hex read ≡ Ok output → (chosen : Chosen) × (read ≡ Ok chosen)
+chosen_by hex (Ok chosen) output is = (chosen, refl)
+chosen_by hex (Err fault) output is = absurd cc
 
-read_script_out : (hex : Bool) (capture script : List ℕ) (after : Disk) → AreBytes (after.contents capture) → after.opened ≡ Some script → read_out (Some (Replay hex capture script)) after ≡ []
-read_script_out hex capture script after bytes opened =
+read_script_out : BeginsNoCapture → (hex : Bool) (capture script : List ℕ) (after : Disk) → AreBytes (after.contents capture) → after.opened ≡ Some script → read_out (Some (Replay hex capture script)) after ≡ []
+read_script_out law hex capture script after bytes opened =
     part_none (replay_by hex (script_of (after.contents script))) (given_of capture after)
-    (λ output is. ((each_goes_on after.contents (Replay hex capture script) output is).none, let s = profile_by hex (script_of (after.contents script)) output is in script_given capture script s.0 after bytes opened s.1))
+    (λ output is. (none_of_each after.contents (Replay hex capture script) output is, let s = chosen_by hex (script_of (after.contents script)) output is in script_given law capture script s.0 after bytes opened s.1))
 
 -- ---- the parts
 
-pub script_stops : (hex : Bool) (capture script : List ℕ) (why : Stop) (before after : Disk) (old : Option (List ℕ)) → SameDisk before after → AreBytes (before.contents capture) → ReadsScript (Err why) script before after → IsTrue before.told
+pub script_stops : BeginsNoCapture → (hex : Bool) (capture script : List ℕ) (why : Stop) (before after : Disk) (old : Option (List ℕ)) → SameDisk before after → AreBytes (before.contents capture) → ReadsScript (Err why) script before after → IsTrue before.told
     → Runs (Err why) (wanted_of before.contents (Replay hex capture script)) (Some (Replay hex capture script)) after old old
-script_stops hex capture script (stop.Script fault) before after old same bytes is told =
+script_stops law hex capture script (stop.Script fault) before after old same bytes is told =
     let c = capture_of (before.contents capture) in
-    let w : want_from (replay_by hex (script_of (before.contents script))) c ≡ BadScript fault = ap (λ (r : Result Profile ScriptFault). want_from (replay_by hex r) c) (is told) in
+    let w : want_from (replay_by hex (script_of (before.contents script))) c ≡ BadScript fault = ap (λ (r : Result Chosen ScriptFault). want_from (replay_by hex r) c) (is told) in
     (ap stop_of w, adds_same [] (out_of (wanted_of before.contents (Replay hex capture script))) old old (sym (ap out_of w)) (adds_none old))
-script_stops hex capture script stop.Read before after old same bytes is told = elim (is told) [
+script_stops law hex capture script stop.Read before after old same bytes is told = elim (is told) [
   | inl closed ↦ adds_same [] (read_out (Some (Replay hex capture script)) after) old old (sym (read_closed (Replay hex capture script) after closed)) (adds_none old)
-  | inr opened ↦ adds_same [] (read_out (Some (Replay hex capture script)) after) old old (sym (read_script_out hex capture script after (subst (λ (f : List ℕ → List ℕ). AreBytes (f capture)) (sym same.contents) bytes) opened)) (adds_none old)
+  | inr opened ↦ adds_same [] (read_out (Some (Replay hex capture script)) after) old old (sym (read_script_out law hex capture script after (subst (λ (f : List ℕ → List ℕ). AreBytes (f capture)) (sym same.contents) bytes) opened)) (adds_none old)
 ]
-script_stops hex capture script stop.Memory before after old same bytes is told = front_none (out_of (wanted_of before.contents (Replay hex capture script))) old
-script_stops hex capture script stop.Usage before after old same bytes is told = absurd is
-script_stops hex capture script stop.Write before after old same bytes is told = absurd is
-script_stops hex capture script (stop.Capture fault) before after old same bytes is told = absurd is
+script_stops law hex capture script stop.Memory before after old same bytes is told = front_none (out_of (wanted_of before.contents (Replay hex capture script))) old
+script_stops law hex capture script stop.Usage before after old same bytes is told = absurd is
+script_stops law hex capture script stop.Write before after old same bytes is told = absurd is
+script_stops law hex capture script (stop.Capture fault) before after old same bytes is told = absurd is
 
 pub open_fails : (form : Form) (after : Disk) (old : Option (List ℕ)) → IsClosed after → Adds (read_out (Some form) after) old old
 open_fails form after old closed = adds_same [] (read_out (Some form) after) old old (sym (read_closed form after closed.opened)) (adds_none old)

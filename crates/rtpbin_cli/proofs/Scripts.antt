@@ -12,14 +12,13 @@ use Rattle.pcap_file.specs.declared.order.Order.{Order}
 use Rattle.pcap_file.specs.declared.order.Order.TheVariants.{Little, Big}
 use Rattle.pcap_file.specs.Numbers.{number_at}
 use Rattle.pcap_file.specs.Capture.{capture_of, format_of, format_in, order_of, behind_header, empty}
-use Rattle.log_model.specs.declared.Profile.{Profile}
 use Rattle.script_lang.specs.declared.fault.ScriptCause.TheVariants.{Size}
 use Rattle.script_lang.specs.declared.fault.ScriptFault.{ScriptFault as Refusal}
 use Rattle.script_lang.specs.declared.fault.ScriptFault.TheVariants as refusal
 use Rattle.script_lang.specs.Contents.{Contents}
 use Rattle.script_lang.specs.Grammar.{read_script}
-use Rattle.script_lang.proofs.FirstLine.{no_first, no_three}
 use Rattle.rtpbin_cli.specs.declared.script.ScriptCause.TheVariants.{Language}
+use Rattle.rtpbin_cli.specs.Chosen.{Chosen}
 use Rattle.rtpbin_cli.specs.Script.{script_of, script_from}
 use Rattle.rtpbin_cli.specs.declared.stop.Stop.{Stop}
 use Rattle.rtpbin_cli.specs.declared.stop.Stop.TheVariants as stop
@@ -45,10 +44,16 @@ no_records bytes short = rw (lt-ltb (length bytes) 24 short) refl
 
 -- ---- a script without a fault begins no capture
 
-contents_known : (read : Result Contents Refusal) (profile : Profile) → script_from read ≡ Ok profile → (c : Contents) × (read ≡ Ok c)
-contents_known (Ok c) profile is = (c, refl)
-contents_known (Err (refusal.Bad line cause)) profile is = absurd cc
-contents_known (Err refusal.OutOfMemory) profile is = absurd cc
+contents_known : (read : Result Contents Refusal) (chosen : Chosen) → script_from read ≡ Ok chosen → (c : Contents) × (read ≡ Ok c)
+contents_known (Ok c) chosen is = (c, refl)
+contents_known (Err (refusal.Bad line cause)) chosen is = absurd cc
+contents_known (Err refusal.OutOfMemory) chosen is = absurd cc
+
+-- no script has one of these fronts
+pub record BeginsNoCapture : Type 0 where
+  pub big : (xs : List ℕ) (c : Contents) → read_script (161 ∷ xs) ≢ Ok c
+  pub little : (xs : List ℕ) (c : Contents) → read_script (212 ∷ xs) ≢ Ok c
+  pub nano : (xs : List ℕ) (c : Contents) → read_script (77 ∷ 60 ∷ 178 ∷ xs) ≢ Ok c
 
 -- a capture's first bytes, by the four magic numbers
 pub record BeginsOtherwise (a b c : ℕ) : Type 0 where
@@ -56,11 +61,11 @@ pub record BeginsOtherwise (a b c : ℕ) : Type 0 where
   pub little : a ≢ 212
   pub nano : a ≡ 77 → b ≡ 60 → c ≢ 178
 
-begins_otherwise : (a b c : ℕ) (xs : List ℕ) (contents : Contents) → read_script (a ∷ b ∷ c ∷ xs) ≡ Ok contents → BeginsOtherwise a b c
-begins_otherwise a b c xs contents is = record {
-  big = λ e. no_first 161 (b ∷ c ∷ xs) contents refl refl refl refl refl (subst (λ (n : ℕ). read_script (n ∷ b ∷ c ∷ xs) ≡ Ok contents) e is);
-  little = λ e. no_first 212 (b ∷ c ∷ xs) contents refl refl refl refl refl (subst (λ (n : ℕ). read_script (n ∷ b ∷ c ∷ xs) ≡ Ok contents) e is);
-  nano = λ ea eb ec. no_three xs contents (subst (λ (n : ℕ). read_script (77 ∷ 60 ∷ n ∷ xs) ≡ Ok contents) ec
+begins_otherwise : BeginsNoCapture → (a b c : ℕ) (xs : List ℕ) (contents : Contents) → read_script (a ∷ b ∷ c ∷ xs) ≡ Ok contents → BeginsOtherwise a b c
+begins_otherwise law a b c xs contents is = record {
+  big = λ e. law.big (b ∷ c ∷ xs) contents (subst (λ (n : ℕ). read_script (n ∷ b ∷ c ∷ xs) ≡ Ok contents) e is);
+  little = λ e. law.little (b ∷ c ∷ xs) contents (subst (λ (n : ℕ). read_script (n ∷ b ∷ c ∷ xs) ≡ Ok contents) e is);
+  nano = λ ea eb ec. law.nano xs contents (subst (λ (n : ℕ). read_script (77 ∷ 60 ∷ n ∷ xs) ≡ Ok contents) ec
       (subst (λ (n : ℕ). read_script (77 ∷ n ∷ c ∷ xs) ≡ Ok contents) eb (subst (λ (n : ℕ). read_script (n ∷ b ∷ c ∷ xs) ≡ Ok contents) ea is)));
 }
 
@@ -109,12 +114,12 @@ no_capture a b c d xs la lb lc ld begins = at (nat_lt (length (a ∷ b ∷ c ∷
     at false = by_order (starts_with nat_eq head (0x0a ∷ 0x0d ∷ 0x0d ∷ 0x0a ∷ [])) (order_of head) (no_order a b c d (take 20 xs) la lb lc ld begins)
 
 -- nor does a front of it
-pub begins_no_capture : (text : List ℕ) (profile : Profile) (k : ℕ) → AreBytes text → script_of text ≡ Ok profile → (capture_of (take k text)).records ≡ []
-begins_no_capture text profile k bytes is = let known = contents_known (read_script text) profile is in at text k bytes known.0 known.1
+pub begins_no_capture : BeginsNoCapture → (text : List ℕ) (chosen : Chosen) (k : ℕ) → AreBytes text → script_of text ≡ Ok chosen → (capture_of (take k text)).records ≡ []
+begins_no_capture law text chosen k bytes is = let known = contents_known (read_script text) chosen is in at text k bytes known.0 known.1
   where
     at : (text : List ℕ) (k : ℕ) → AreBytes text → (c : Contents) → read_script text ≡ Ok c → (capture_of (take k text)).records ≡ []
     at (a ∷ b ∷ c ∷ d ∷ xs) (suc (suc (suc (suc k)))) bytes contents is =
-        no_capture a b c d (take k xs) (bytes 0 0 (omega arith)) (bytes 1 0 (omega arith)) (bytes 2 0 (omega arith)) (bytes 3 0 (omega arith)) (begins_otherwise a b c (d ∷ xs) contents is)
+        no_capture a b c d (take k xs) (bytes 0 0 (omega arith)) (bytes 1 0 (omega arith)) (bytes 2 0 (omega arith)) (bytes 3 0 (omega arith)) (begins_otherwise law a b c (d ∷ xs) contents is)
     at text zero bytes contents is = no_records (take zero text) (omega (arith, length-take zero text))
     at text (suc zero) bytes contents is = no_records (take 1 text) (omega (arith, length-take 1 text))
     at text (suc (suc zero)) bytes contents is = no_records (take 2 text) (omega (arith, length-take 2 text))
@@ -126,8 +131,8 @@ begins_no_capture text profile k bytes is = let known = contents_known (read_scr
 
 -- ---- a script that was read
 
-pub reads_script : (r : Result Profile Stop) (name text : List ℕ) (before after : Disk) → (IsTrue before.told → script_of (before.contents name) ≡ script_of text) → ReadsText r text → ReadsScript r name before after
-reads_script (Ok profile) name text before after same reads = λ told. same told ∙ reads
+pub reads_script : (r : Result Chosen Stop) (name text : List ℕ) (before after : Disk) → (IsTrue before.told → script_of (before.contents name) ≡ script_of text) → ReadsText r text → ReadsScript r name before after
+reads_script (Ok chosen) name text before after same reads = λ told. same told ∙ reads
 reads_script (Err (stop.Script fault)) name text before after same reads = λ told. same told ∙ reads
 reads_script (Err stop.Memory) name text before after same reads = tt
 reads_script (Err stop.Usage) name text before after same reads = absurd reads
@@ -135,8 +140,8 @@ reads_script (Err stop.Read) name text before after same reads = absurd reads
 reads_script (Err stop.Write) name text before after same reads = absurd reads
 reads_script (Err (stop.Capture fault)) name text before after same reads = absurd reads
 
-pub reads_cause : (r : Result Profile Stop) (text : List ℕ) (f f' : ℕ) → f' ≡ f → ReadsText r text → HasStopCause r f f' 0 0
-reads_cause (Ok profile) text f f' same reads = (same, refl)
+pub reads_cause : (r : Result Chosen Stop) (text : List ℕ) (f f' : ℕ) → f' ≡ f → ReadsText r text → HasStopCause r f f' 0 0
+reads_cause (Ok chosen) text f f' same reads = (same, refl)
 reads_cause (Err (stop.Script fault)) text f f' same reads = (same, refl)
 reads_cause (Err stop.Memory) text f f' same reads = (same, refl)
 reads_cause (Err stop.Usage) text f f' same reads = absurd reads

@@ -1,8 +1,10 @@
 pub mod Words
 pub mod Output
 pub mod Clock
+pub mod Chosen
 pub mod Script
 pub mod Dump
 pub mod Commands
 pub mod Outcome
 pub mod Steps
+pub mod Plays

@@ -4,12 +4,12 @@ use Rattle.rtp_io.specs.Outside.{Disk, Adds, AddsFront}
 use Rattle.pcap_file.specs.declared.fault.CaptureFault.{CaptureFault}
 use Rattle.pcap_file.specs.declared.fault.CaptureFault.TheVariants as faults
 use Rattle.pcap_file.specs.Capture.{capture_of}
-use Rattle.log_model.specs.declared.Profile.{Profile}
 use Rattle.rtpbin_cli.specs.declared.status.Status.{Status}
 use Rattle.rtpbin_cli.specs.declared.status.Status.TheVariants as status
 use Rattle.rtpbin_cli.specs.declared.stop.Stop.{Stop}
 use Rattle.rtpbin_cli.specs.declared.stop.Stop.TheVariants as stop
 use Rattle.rtpbin_cli.specs.Words.{Form}
+use Rattle.rtpbin_cli.specs.Chosen.{Chosen}
 use Rattle.rtpbin_cli.specs.Script.{script_of}
 use Rattle.rtpbin_cli.specs.Output.{Output, output_of}
 use Rattle.rtpbin_cli.specs.Outcome.{Wanted, out_of, stop_of, status_of_stop, text_of, memory_text, read_out}
@@ -37,6 +37,18 @@ Prints bytes (Err stop.Write) old new o o' = AddsFront bytes old new × (o < o')
 Prints bytes (Err stop.Memory) old new o o' = AddsFront bytes old new × (o' ≡ o)
 Prints bytes (Err other) old new o o' = ⊥
 
+-- all of these bytes were written, or a front of them
+abbrev pub Writes : Result (Unit {0}) Stop → List ℕ → Option (List ℕ) → Option (List ℕ) → Type 0
+Writes (Ok x) bytes old new = Adds bytes old new
+Writes (Err why) bytes old new = AddsFront bytes old new
+
+-- how the count of the output's faults moved where bytes were written
+abbrev pub HasWriteCause : Result (Unit {0}) Stop → ℕ → ℕ → Type 0
+HasWriteCause (Ok x) o o' = o' ≡ o
+HasWriteCause (Err stop.Write) o o' = o < o'
+HasWriteCause (Err stop.Memory) o o' = o' ≡ o
+HasWriteCause (Err other) o o' = ⊥
+
 -- the bytes that were given, and what was written for them
 pub record WroteGiven (output : Output) (before after : Disk) (old new : Option (List ℕ)) : Type 0 where
   pub given : List ℕ
@@ -54,15 +66,15 @@ Covers output (Err stop.Usage) before after old new = ⊥
 Covers output (Err (stop.Script fault)) before after old new = ⊥
 
 -- reading a script of these bytes
-abbrev pub ReadsText : Result Profile Stop → List ℕ → Type 0
-ReadsText (Ok profile) text = script_of text ≡ Ok profile
+abbrev pub ReadsText : Result Chosen Stop → List ℕ → Type 0
+ReadsText (Ok chosen) text = script_of text ≡ Ok chosen
 ReadsText (Err (stop.Script fault)) text = script_of text ≡ Err fault
 ReadsText (Err stop.Memory) text = Unit {0}
 ReadsText (Err other) text = ⊥
 
 -- reading the script of this name
-abbrev pub ReadsScript : Result Profile Stop → List ℕ → Disk → Disk → Type 0
-ReadsScript (Ok profile) name before after = IsTrue before.told → script_of (before.contents name) ≡ Ok profile
+abbrev pub ReadsScript : Result Chosen Stop → List ℕ → Disk → Disk → Type 0
+ReadsScript (Ok chosen) name before after = IsTrue before.told → script_of (before.contents name) ≡ Ok chosen
 ReadsScript (Err (stop.Script fault)) name before after = IsTrue before.told → script_of (before.contents name) ≡ Err fault
 ReadsScript (Err stop.Read) name before after = IsTrue before.told → (after.opened ≡ None) ⊎ (after.opened ≡ Some name)
 ReadsScript (Err stop.Memory) name before after = Unit {0}

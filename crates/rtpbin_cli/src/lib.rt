@@ -3,6 +3,7 @@
 
 mod clock;
 mod dump;
+mod player;
 mod replay;
 mod script;
 mod status;

@@ -1,14 +1,17 @@
 //! The scripts that a replay takes.
-ghost use Rattle.std.specs.Prelude.{◌≡◌, ◌<◌, IfOk, IfSome};
+ghost use Rattle.std.specs.Prelude.{◌≡◌, ◌<◌, map, IfOk, IfSome};
 ghost use Rattle.log_model.specs.Captured.{IsProfile, pushers_of};
-ghost use Rattle.rtpbin_cli.specs.Script.{built_profile, is_built as builds, only_session as one_session, only_type as one_type, profile_with as profile_from, settings_with as settings_from};
+ghost use Rattle.rtpbin_cli.specs.Script.{built_profile, is_built as builds, item_of as item_from, only_session as one_session, only_type as one_type, profile_with as profile_from, settings_with as settings_from};
 ghost use Rattle.rtpbin_cli.specs.Steps.{ReadsText};
 
 use crate::stop::Stop;
 use jitter_core::Settings;
-use log_model::Profile;
-use script_lang::{PtLine, Script, ScriptFault as Refusal, ScriptSettings, SessionLine, read};
-use std::alloc::Global;
+use log_model::{Control, Item, Profile};
+use script_lang::{
+    Action, PtLine, Script, ScriptFault as Refusal, ScriptSettings, SessionLine, read,
+};
+use std::alloc::{AllocError, Global};
+use std::marker::Model;
 
 /// What a line of a script has against it.
 #[derive(Clone, Copy, Debug, PartialEq, Eq)]
@@ -26,14 +29,34 @@ pub struct ScriptFault {
     pub cause: ScriptCause,
 }
 
-/// The profile that a script makes.
-pub fn profile_in(alloc: Global, text: &[u8]) -> Result<Profile, Stop>
-    ensures after { ReadsText result text.now }
-    ensures valid { IfOk result IsProfile }
+/// What a script asks of a replay: its profile, and its items in order of time. Contracts see the record of
+/// the profile and the list of the items.
+#[derive(Debug, Drop)]
+pub struct Setup {
+    pub profile: Profile,
+    pub items: Vec<Item>,
+}
+
+impl Model for Setup {
+    ghost use Rattle.rtpbin_cli.specs.Chosen.{Chosen, IsChosen};
+
+    ghost Value = { Chosen };
+
+    ghost view = { λ s. record { profile = s.profile; items = s.items.items } };
+
+    ghost invariant = { λ s. IsChosen (record { profile = s.profile; items = s.items.items }) };
+}
+
+/// What a script asks for.
+pub fn setup_in(alloc: Global, text: &[u8]) -> Result<Setup, Stop>
+    ensures { ReadsText result text.now }
 {
     match read(alloc, text) {
         Ok(script) => match profile_of(&script) {
-            Some(profile) => Ok(profile),
+            Some(profile) => match items_of(alloc, &script.items) {
+                Ok(items) => Ok(Setup { profile, items }),
+                Err(AllocError) => Err(Stop::Memory),
+            },
             None => Err(Stop::Script(ScriptFault {
                 line: 0,
                 cause: ScriptCause::Unbuilt,
@@ -64,15 +87,13 @@ fn profile_of(script: &Script) -> Option<Profile>
     }
 }
 
-// So far there are no retransmissions and timed lines; each source is valid at once, and there are no
-// reports.
+// So far there are no retransmissions; each source is valid at once, and there are no reports.
 fn is_built(script: &Script) -> bool
     ensures { result ≡ builds script.now }
 {
     let settings = &script.settings;
     script.rtx.is_empty()
         && script.fids.is_empty()
-        && script.items.is_empty()
         && !settings.rtx
         && settings.probation == 0
         && settings.report == 0
@@ -146,5 +167,26 @@ fn pushers(session: u8) -> u16
         5 => 0x120,
         6 => 0x140,
         _ => 0x180,
+    }
+}
+
+// The items of the one session: a script names no session that it does not have.
+fn items_of(alloc: Global, items: &[script_lang::Item]) -> Result<Vec<Item>, AllocError>
+    ensures { IfOk result (λ made. made.items ≡ map item_from items.now) }
+{
+    items.iter().map(item_of).collect(alloc)
+}
+
+fn item_of(item: &script_lang::Item) -> Item
+    ensures { result ≡ item_from item.now }
+{
+    Item {
+        time: item.time,
+        control: match item.action {
+            Action::Clock => Control::Clock,
+            Action::FlushStart(_) => Control::FlushStart,
+            Action::FlushStop(_) => Control::FlushStop,
+            Action::Latency { ns, .. } => Control::Latency(ns),
+        },
     }
 }

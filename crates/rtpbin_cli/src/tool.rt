@@ -1,6 +1,5 @@
 //! The top call.
 ghost use Rattle.std.specs.Prelude.{◌≡◌, ◌≢◌, ◌⊎◌, ◌<◌, ◌-◌, ◌^◌, ◌≤◌, None, Some, IsTrue, IfOk, length};
-ghost use Rattle.log_model.specs.Captured.{IsProfile};
 ghost use Rattle.rtp_io.specs.Outside.{SameDisk};
 ghost use Rattle.rtpbin_cli.specs.Words.{form_of, texts, Replay};
 ghost use Rattle.rtpbin_cli.specs.Outcome.{AreBytes, HasErr, HasFixedErr, HasOut, HasStatusCause, IsAnswer, IsUsageOr, Knows, MayOpen, status_of, stop_of, wanted, wanted_of};
@@ -8,13 +7,13 @@ ghost use Rattle.rtpbin_cli.specs.Steps.{HasStopCause, IsOfForm, IsUsage, ReadsS
 
 use crate::dump::dump_open;
 use crate::replay::replay_open;
-use crate::script::profile_in;
+use crate::script::{Setup, setup_in};
 use crate::status::Status;
 use crate::stop::Stop;
 use crate::words::{Asked, asked_by};
-use log_model::Profile;
 use rtp_io::{Failed, Files, Sink, read_up_to, write_piece};
 use script_lang::MAX_SCRIPT;
+use script_lang::laws::begins_no_capture;
 use std::alloc::{AllocError, Global};
 
 /// Does what the words ask for, and answers how it ended. The text of a status other than `Done` and
@@ -140,23 +139,24 @@ fn replay<F: Files, O: Sink>(
     ensures of_form { IsOfForm result }
     ensures cause { HasStopCause result (F.faults files.old) (F.faults files.new) (O.faults out.old) (O.faults out.new) }
 {
-    let profile = match read_script(alloc, files, script) {
-        Ok(profile) => profile,
+    // A law for the proof: a script begins no capture. The call does nothing.
+    begins_no_capture();
+    let setup = match read_script(alloc, files, script) {
+        Ok(setup) => setup,
         Err(stop) => return Err(stop),
     };
     match files.open_file(capture) {
-        Ok(()) => replay_open(alloc, &profile, hex, files, out),
+        Ok(()) => replay_open(alloc, &setup, hex, files, out),
         Err(Failed) => Err(Stop::Read),
     }
 }
 
 // Reads the script, up to one byte more than it may have.
-fn read_script<F: Files>(alloc: Global, files: &mut F, name: &str) -> Result<Profile, Stop>
+fn read_script<F: Files>(alloc: Global, files: &mut F, name: &str) -> Result<Setup, Stop>
     requires may_open { IsTrue ((F.disk files.old).may_open name.now) }
     requires countable { F.faults files.old < 2 ^ 64 - 1 }
     ensures same { SameDisk (F.disk files.old) (F.disk files.new) }
     ensures after { ReadsScript result name.now (F.disk files.old) (F.disk files.new) }
-    ensures profile { IfOk result IsProfile }
     ensures cause { HasStopCause result (F.faults files.old) (F.faults files.new) 0 0 }
 {
     match files.open_file(name) {
@@ -168,7 +168,7 @@ fn read_script<F: Files>(alloc: Global, files: &mut F, name: &str) -> Result<Pro
         Err(AllocError) => return Err(Stop::Memory),
     };
     match read_up_to(files, &mut text) {
-        Ok(size) => profile_in(alloc, &text[..size]),
+        Ok(size) => setup_in(alloc, &text[..size]),
         Err(Failed) => Err(Stop::Read),
     }
 }

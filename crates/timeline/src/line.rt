@@ -139,6 +139,23 @@ pub enum BinLine {
         number: u64,
         k: u8,
     },
+    /// A flush of a lane begins, and `count` packets are dropped.
+    Flush {
+        time: u64,
+        lane: u8,
+        count: u32,
+    },
+    /// A flush of a lane ends.
+    Flushed {
+        time: u64,
+        lane: u8,
+    },
+    /// A lane has a new latency, in nanoseconds.
+    Latency {
+        time: u64,
+        lane: u8,
+        ns: u64,
+    },
     /// A lane has given all that it had.
     End {
         time: u64,

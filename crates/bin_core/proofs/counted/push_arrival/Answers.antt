@@ -1,6 +1,6 @@
 use Rattle.std.proofs.Common.{ℕ, ap, subst, sym, ◌∙◌}
 use Rattle.jitter_model.specs.History.{is_pusher}
-use Rattle.log_model.proofs.Running.{session_pushes}
+use Rattle.bin_core.proofs.Histories.{session_pushes}
 use Rattle.bin_core.specs.Totals.{with_push, IsCounted}
 use Rattle.bin_core.proofs.Totals.{has_room, push_counted}
 use Rattle.bin_core.proofs.counted.push_arrival.Goals as goal
@@ -10,7 +10,7 @@ push-answer-requires-clause-pusher c = ap (λ (n : ℕ). is_pusher n c.args.arri
 
 pub count_push-lane-requires : goal.count_push-lane-requires
 count_push-lane-requires c =
-    (has_room c.push-answer.new.buffer (with_push c.args.lane.now.counts c.push-answer.result.verdict)
+    (has_room c.accepted_in_window.ensures.window c.push-answer.new.buffer (with_push c.args.lane.now.counts c.push-answer.result.verdict)
     (push_counted c.args.lane.now.buffer c.push-answer.new.buffer c.args.lane.now.counts c.args.arrival c.push-answer.result.verdict c.push-answer.result.number c.push-answer.result.aside_dropped c.push-answer.ensures.stands c.args.lane.now.counted)).refused
 
 pub invariant_of-lane : goal.invariant_of-lane

@@ -2,8 +2,8 @@ use Rattle.std.proofs.Common.{ℕ, refl, ap, ◌∙◌}
 use Rattle.jitter_model.specs.History.{is_pusher}
 use Rattle.jitter_model.specs.declared.Entry.TheVariants.{Ends}
 use Rattle.log_model.specs.declared.TheConstants.{CONTROL}
-use Rattle.log_model.proofs.Running.{session_pushes, control_pushes}
-use Rattle.bin_core.proofs.Totals.{end_counted}
+use Rattle.bin_core.proofs.Histories.{session_pushes, control_pushes}
+use Rattle.bin_core.proofs.Totals.{call_counted}
 use Rattle.bin_core.proofs.Entering.{entered}
 use Rattle.bin_core.proofs.Outcomes.{on_ok}
 use Rattle.bin_core.proofs.lane.end.Goals as goal
@@ -16,11 +16,11 @@ end-requires-2 c = ap (λ (n : ℕ). is_pusher n CONTROL) (ap (λ s. s.pushers) 
 
 pub invariant_of-lane : goal.invariant_of-lane
 invariant_of-lane c =
-    record { counted = end_counted c.args.lane.now.buffer c.end.new.self c.args.lane.now.counts c.args.session c.end.ensures.stands c.args.lane.now.counted }
+    record { counted = call_counted c.args.lane.now.buffer c.end.new.self c.args.lane.now.counts (Ends c.args.session) c.end.ensures.stands (λ h. record { out = refl; lost = refl; refused = refl }) c.args.lane.now.counted }
 
 pub invariant_of-lane-2 : goal.invariant_of-lane-2
 invariant_of-lane-2 c =
-    record { counted = end_counted c.settle.new.lane.buffer c.end-2.new.self c.settle.new.lane.counts CONTROL c.end-2.ensures.stands c.settle.new.lane.counted }
+    record { counted = call_counted c.settle.new.lane.buffer c.end-2.new.self c.settle.new.lane.counts (Ends CONTROL) c.end-2.ensures.stands (λ h. record { out = refl; lost = refl; refused = refl }) c.settle.new.lane.counted }
 
 pub returns-clause-stands : goal.returns-clause-stands
 returns-clause-stands c =

@@ -1,13 +1,13 @@
 use Rattle.std.proofs.Common.{refl}
 use Rattle.jitter_model.specs.declared.Entry.TheVariants.{Clock}
-use Rattle.bin_core.proofs.Totals.{clock_counted}
+use Rattle.bin_core.proofs.Totals.{call_counted}
 use Rattle.bin_core.proofs.Entering.{entered}
 use Rattle.bin_core.proofs.Outcomes.{on_ok}
 use Rattle.bin_core.proofs.lane.tick.Goals as goal
 
 pub invariant_of-lane : goal.invariant_of-lane
 invariant_of-lane c =
-    record { counted = clock_counted c.args.lane.now.buffer c.clock.new.self c.args.lane.now.counts c.args.time c.clock.ensures.stands c.args.lane.now.counted }
+    record { counted = call_counted c.args.lane.now.buffer c.clock.new.self c.args.lane.now.counts (Clock c.args.time) c.clock.ensures.stands (λ h. record { out = refl; lost = refl; refused = refl }) c.args.lane.now.counted }
 
 pub returns-clause-stands : goal.returns-clause-stands
 returns-clause-stands c =

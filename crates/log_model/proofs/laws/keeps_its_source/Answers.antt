@@ -1,4 +1,4 @@
-use Rattle.std.proofs.Common.{◌≡◌, ap, ◌∙◌, List, [], ◌∷◌, ◌++◌, Option, Some}
+use Rattle.std.proofs.Common.{◌≡◌, ap, List, [], ◌∷◌, ◌++◌, Option, Some}
 use Rattle.log_model.specs.declared.Profile.{Profile}
 use Rattle.log_model.specs.declared.Source.{Source}
 use Rattle.log_model.specs.Times.{Timed}

@@ -8,4 +8,4 @@ pub returns-clause-runs : goal.returns-clause-runs
 returns-clause-runs c = none_left_at_end
 
 pub returns-clause-replay : goal.returns-clause-replay
-returns-clause-replay c = λ s rs h count. none_left_at_end s.settings count (timeline s (reverse rs)) (λ l _. lanes_run s rs h l)
+returns-clause-replay c = λ s xs h count. none_left_at_end s.settings count (timeline s (reverse xs)) (λ l _. lanes_run s xs h l)

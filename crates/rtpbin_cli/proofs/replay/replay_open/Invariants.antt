@@ -1,4 +1,5 @@
-use Rattle.std.proofs.Common.{◌≡◌, ◌-◌, ◌<◌, ◌^◌, []}
+use Rattle.std.proofs.Common.{◌≡◌, ◌-◌, ◌<◌, ◌≤◌, ◌^◌, [], length, drop}
+use Rattle.log_model.specs.Captured.{AreItems}
 use Rattle.bin_core.specs.Words.{records_of, time_of}
 use Rattle.rtpbin_cli.specs.Commands.{replay_output}
 use Rattle.rtpbin_cli.proofs.Progress.{Progress}
@@ -8,13 +9,16 @@ use Rattle.rtpbin_cli.proofs.replay.replay_open.Given as goal
 abbrev pub invariant-records : goal.invariant-records
 invariant-records g l =
     record {
-      progress : Progress (replay_output l.fn.hex l.profile) (Took l.profile l.bin l.clock) (g.F.Files.disk l.fn.files) l.pcap l.pull (g.F.Files.disk l.files) (g.O.Sink.written l.fn.out) (g.O.Sink.written l.out);
+      progress : Progress (replay_output l.fn.hex l.setup) (Took l.setup l.player l.clock l.given) (g.F.Files.disk l.fn.files) l.pcap l.pull (g.F.Files.disk l.files) (g.O.Sink.written l.fn.out) (g.O.Sink.written l.out);
       files : g.F.Files.faults l.files ≡ g.F.Files.faults l.fn.files;
       out : g.O.Sink.faults l.out ≡ g.O.Sink.faults l.fn.out;
-      count : records_of l.bin ≡ l.pcap.count;
-      time : time_of l.bin ≡ l.clock.time;
+      count : records_of l.player.bin ≡ l.pcap.count;
+      time : time_of l.player.bin ≡ l.clock.time;
       small : l.clock.time < 2 ^ 63;
-      none : l.lines ≡ [];
+      none : l.player.lines ≡ [];
+      hex : l.player.hex ≡ l.fn.hex;
+      few : l.given ≤ length l.setup.items;
+      are : AreItems l.clock.time (drop l.given l.setup.items);
     }
 
 abbrev pub decreases-records : goal.decreases-records

@@ -1,4 +1,4 @@
-use Rattle.std.proofs.Common.{ℕ, ◌≡◌, ◌∙◌, sym, ap, refl, rules, arith}
+use Rattle.std.proofs.Common.{◌≡◌, ◌∙◌, sym, ap, rules}
 use Rattle.log_model.specs.Captured.{pushers_of}
 use Rattle.rtpbin_cli.proofs.Lanes.{pushers_0, pushers_1, pushers_2, pushers_3, pushers_4, pushers_5, pushers_6, pushers_7}
 use Rattle.rtpbin_cli.proofs.script.pushers.Goals as goal

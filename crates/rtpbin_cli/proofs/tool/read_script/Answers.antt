@@ -9,7 +9,7 @@ pub returns-in-Ok-read_up_to-clause-after : goal.returns-in-Ok-read_up_to-clause
 returns-in-Ok-read_up_to-clause-after g c =
     let before = g.F.Files.disk c.args.files.now in
     let opened = g.F.Files.disk c.open_file.new.self in
-    reads_script c.profile_in.result c.args.name.now _ before (g.F.Files.disk c.read_up_to.new.files)
+    reads_script c.setup_in.result c.args.name.now _ before (g.F.Files.disk c.read_up_to.new.files)
     (λ told.
     let now = c.in-Ok.ensures.opened told in
     let told' = told_then before opened c.open_file.ensures.same told in
@@ -18,7 +18,7 @@ returns-in-Ok-read_up_to-clause-after g c =
     let front = script_front (before.contents c.args.name.now) c.read_up_to.new.buf c.in-Ok-read_up_to.size opened (g.F.Files.disk c.read_up_to.new.files) left (c.in-Ok-read_up_to.ensures.read told') size c.in-Ok-read_up_to.ensures.bound in
     let is : c.deref.result.now ≡ c.read_up_to.new.buf = c.deref.ensures.value ∙ with_items_is c.in-Ok-zeros.text c.read_up_to.new.buf (c.read_up_to.auto.buf ∙ c.deref_mut.ensures.len) in
     front ∙ ap (λ (l : List ℕ). script_of (take c.in-Ok-read_up_to.size l)) (sym is))
-    c.profile_in.ensures.after
+    c.setup_in.ensures
 
 pub returns-in-Ok-read_up_to-clause-cause : goal.returns-in-Ok-read_up_to-clause-cause
-returns-in-Ok-read_up_to-clause-cause g c = reads_cause c.profile_in.result _ _ _ (c.in-Ok-read_up_to.ensures.cause ∙ c.in-Ok.ensures.cause) c.profile_in.ensures.after
+returns-in-Ok-read_up_to-clause-cause g c = reads_cause c.setup_in.result _ _ _ (c.in-Ok-read_up_to.ensures.cause ∙ c.in-Ok.ensures.cause) c.setup_in.ensures
