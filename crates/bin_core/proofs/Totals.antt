@@ -4,6 +4,7 @@ use Rattle.std.specs.Prelude.{if◌then◌else◌}
 use Rattle.std.proofs.Props.{props}
 use Rattle.std.proofs.Math.Logic.{∥∥₁_elim}
 use Rattle.jitter_model.specs.declared.Arrival.{Arrival}
+use Rattle.jitter_model.specs.declared.Packet.{Packet as PacketOf}
 use Rattle.jitter_model.specs.declared.Settings.{Settings}
 use Rattle.jitter_model.specs.declared.Turn.{Turn}
 use Rattle.jitter_model.specs.declared.Turn.TheVariants.{Packet, Lost, Request, End, Idle, Flushing}
@@ -14,10 +15,8 @@ use Rattle.jitter_model.specs.declared.Entry.TheVariants.{Push, Clock, FlushStar
 use Rattle.jitter_model.specs.History.{History, pushes, is_flushing}
 use Rattle.jitter_model.specs.Accepted.{Taken, top, least, accepted}
 use Rattle.jitter_model.specs.Covered.{next, next_after}
-use Rattle.jitter_model.specs.Turns.{Sight, sight}
 use Rattle.jitter_model.specs.Runs.{Run}
 use Rattle.jitter_model.specs.Laws.{IsWindow}
-use Rattle.jitter_model.proofs.Covers.{Covers, covers}
 use Rattle.jitter_core.specs.declared.buffer.Buffer.{Buffer}
 use Rattle.jitter_core.specs.Words.{Stands}
 use Rattle.bin_core.specs.declared.counted.Counts.{Counts}
@@ -36,51 +35,73 @@ uncovered_few (Some t) None (Some n) = λ w. absurd w
 uncovered_few (Some t) (Some m) None = λ w. omega (arith, w.0, w.1)
 uncovered_few (Some t) (Some m) (Some n) = λ w. omega (arith, w.0, w.1)
 
+-- what a reply covers begins at the next number, or at the least one
+abbrev pub IsFirst : Option ℕ → Option ℕ → Turn → Type 0
+IsFirst m o (Packet n pts p) = n ≡ unwrap_or o (unwrap_or m 0)
+IsFirst m o (Lost n count pts d) = o ≡ Some n
+IsFirst m o r = Unit {0}
+
+some_same : (a b : ℕ) → Some a ≡ Some b → a ≡ b
+some_same a b e = cc
+
+none_some : (n : ℕ) → None ≡ Some n → ⊥
+none_some n e = cc
+
 -- a reply covers numbers that were not covered
-covering : (v : Sight) (t m o : Option ℕ) (r : Turn) → v.least ≡ unwrap_or m 0 → Covers v o r → IsWindow t m (next_after o r) → turn_out r + turn_lost r + uncovered t m (next_after o r) ≤ uncovered t m o
-covering v (Some t) (Some m) None (Packet n pts p) = λ e c w. omega (arith, c.0, w.1, w.2)
-covering v (Some t) (Some m) (Some k) (Packet n pts p) = λ e c w. omega (arith, c.0, w.1)
-covering v (Some t) None o (Packet n pts p) = λ e c w. absurd w
-covering v None (Some m) o (Packet n pts p) = λ e c w. absurd w
-covering v None None o (Packet n pts p) = λ e c w. absurd w
-covering v (Some t) (Some m) (Some k) (Lost n count pts d) = λ e c w. omega (arith, c.0, w.1)
-covering v (Some t) None (Some k) (Lost n count pts d) = λ e c w. absurd w
-covering v None (Some m) (Some k) (Lost n count pts d) = λ e c w. absurd w
-covering v None None (Some k) (Lost n count pts d) = λ e c w. absurd w
-covering v t m None (Lost n count pts d) = λ e c w. absurd c
-covering v t m o (Request n k) = λ e c w. omega arith
-covering v t m o End = λ e c w. omega arith
-covering v t m o (Idle wake) = λ e c w. omega arith
-covering v t m o Flushing = λ e c w. omega arith
+covering : (t m o : Option ℕ) (r : Turn) → IsFirst m o r → IsWindow t m (next_after o r) → turn_out r + turn_lost r + uncovered t m (next_after o r) ≤ uncovered t m o
+covering (Some t) (Some m) None (Packet n pts p) = λ c w. omega (arith, c, w.1, w.2)
+covering (Some t) (Some m) (Some k) (Packet n pts p) = λ c w. omega (arith, c, w.1)
+covering (Some t) None o (Packet n pts p) = λ c w. absurd w
+covering None (Some m) o (Packet n pts p) = λ c w. absurd w
+covering None None o (Packet n pts p) = λ c w. absurd w
+covering (Some t) (Some m) (Some k) (Lost n count pts d) = λ c w. let e : k ≡ n = some_same k n c in omega (arith, e, w.1)
+covering (Some t) None (Some k) (Lost n count pts d) = λ c w. absurd w
+covering None (Some m) (Some k) (Lost n count pts d) = λ c w. absurd w
+covering None None (Some k) (Lost n count pts d) = λ c w. absurd w
+covering t m None (Lost n count pts d) = λ c w. absurd (none_some n c)
+covering t m o (Request n k) = λ c w. omega arith
+covering t m o End = λ c w. omega arith
+covering t m o (Idle wake) = λ c w. omega arith
+covering t m o Flushing = λ c w. omega arith
 
 abbrev pub uncovered_in : History → ℕ
 uncovered_in h = uncovered (top (accepted h)) (least (accepted h)) (next h)
 
--- the law of the window
-abbrev pub WindowLaw : Type 0
-WindowLaw = (s : Settings) (h : History) → Run s h → IsWindow (top (accepted h)) (least (accepted h)) (next h)
+-- the laws of the window and of what a reply covers first
+pub record CoverLaws : Type 0 where
+  pub window : (s : Settings) (h : History) → Run s h → IsWindow (top (accepted h)) (least (accepted h)) (next h)
+  pub packet : (s : Settings) (h : History) (n pts : ℕ) (p : PacketOf) → Run s (Turned (Packet n pts p) ∷ h) → n ≡ unwrap_or (next h) (unwrap_or (least (accepted h)) 0)
+  pub loss : (s : Settings) (h : History) (n count pts duration : ℕ) → Run s (Turned (Lost n count pts duration) ∷ h) → next h ≡ Some n
 
-few_in : WindowLaw → (s : Settings) (h : History) → Run s h → uncovered_in h ≤ 8192
-few_in window s h run = uncovered_few (top (accepted h)) (least (accepted h)) (next h) (window s h run)
+few_in : CoverLaws → (s : Settings) (h : History) → Run s h → uncovered_in h ≤ 8192
+few_in laws s h run = uncovered_few (top (accepted h)) (least (accepted h)) (next h) (laws.window s h run)
 
-turned_covers : WindowLaw → (s : Settings) (h : History) (r : Turn) → Run s (Turned r ∷ h) → turn_out r + turn_lost r + uncovered_in (Turned r ∷ h) ≤ uncovered_in h
-turned_covers window s h r run =
-    covering (sight s h) (top (accepted h)) (least (accepted h)) (next h) r refl (covers s h r run.0).fact (window s (Turned r ∷ h) run)
+first_of : CoverLaws → (s : Settings) (h : History) (r : Turn) → Run s (Turned r ∷ h) → IsFirst (least (accepted h)) (next h) r
+first_of laws s h (Packet n pts p) run = laws.packet s h n pts p run
+first_of laws s h (Lost n count pts d) run = laws.loss s h n count pts d run
+first_of laws s h (Request n k) run = tt
+first_of laws s h End run = tt
+first_of laws s h (Idle wake) run = tt
+first_of laws s h Flushing run = tt
+
+turned_covers : CoverLaws → (s : Settings) (h : History) (r : Turn) → Run s (Turned r ∷ h) → turn_out r + turn_lost r + uncovered_in (Turned r ∷ h) ≤ uncovered_in h
+turned_covers laws s h r run =
+    covering (top (accepted h)) (least (accepted h)) (next h) r (first_of laws s h r run) (laws.window s (Turned r ∷ h) run)
 
 flushed : (b : Bool) (ps : List Taken) (o : Option ℕ) → uncovered (top (if b then [] else ps)) (least (if b then [] else ps)) (if b then None else o) ≤ uncovered (top ps) (least ps) o
 flushed true ps o = omega arith
 flushed false ps o = omega arith
 
-pub covered_few : WindowLaw → (s : Settings) (h : History) → Run s h → outs h + losses h + uncovered_in h ≤ 8192 * pushes h
-covered_few window s [] run = omega arith
-covered_few window s (Push a v n d ∷ h) run = omega (arith, covered_few window s h run.1, few_in window s (Push a v n d ∷ h) run)
-covered_few window s (Clock t ∷ h) run = covered_few window s h run.1
-covered_few window s (FlushStart d ∷ h) run = covered_few window s h run.1
-covered_few window s (FlushStop ∷ h) run = omega (arith, covered_few window s h run, flushed (is_flushing h) (accepted h) (next h))
-covered_few window s (Latency ns ∷ h) run = covered_few window s h run.1
-covered_few window s (Report ntp rtp reply ∷ h) run = covered_few window s h run.1
-covered_few window s (Ends p ∷ h) run = covered_few window s h run.1
-covered_few window s (Turned r ∷ h) run = omega (arith, covered_few window s h run.1, turned_covers window s h r run)
+pub covered_few : CoverLaws → (s : Settings) (h : History) → Run s h → outs h + losses h + uncovered_in h ≤ 8192 * pushes h
+covered_few laws s [] run = omega arith
+covered_few laws s (Push a v n d ∷ h) run = omega (arith, covered_few laws s h run.1, few_in laws s (Push a v n d ∷ h) run)
+covered_few laws s (Clock t ∷ h) run = covered_few laws s h run.1
+covered_few laws s (FlushStart d ∷ h) run = covered_few laws s h run.1
+covered_few laws s (FlushStop ∷ h) run = omega (arith, covered_few laws s h run, flushed (is_flushing h) (accepted h) (next h))
+covered_few laws s (Latency ns ∷ h) run = covered_few laws s h run.1
+covered_few laws s (Report ntp rtp reply ∷ h) run = covered_few laws s h run.1
+covered_few laws s (Ends p ∷ h) run = covered_few laws s h run.1
+covered_few laws s (Turned r ∷ h) run = omega (arith, covered_few laws s h run.1, turned_covers laws s h r run)
 
 -- there are at most 2^31 pushes
 pushes_most : (s : Settings) (h : History) → Run s h → pushes h ≤ 2147483648
@@ -123,10 +144,10 @@ pub record HasRoom (c : Counts) : Type 0 where
   pub lost : c.lost < 2 ^ 64
   pub refused : c.refused < 2 ^ 64
 
-room_of : WindowLaw → (b : Buffer) (c : Counts) (h : History) → CountsOf b c h → HasRoom c
-room_of window b c h k =
+room_of : CoverLaws → (b : Buffer) (c : Counts) (h : History) → CountsOf b c h → HasRoom c
+room_of laws b c h k =
     let run : Run (b.state.settings) h = k.stands.run in
-    let few : outs h + losses h + uncovered_in h ≤ 8192 * pushes h = covered_few window b.state.settings h run in
+    let few : outs h + losses h + uncovered_in h ≤ 8192 * pushes h = covered_few laws b.state.settings h run in
     let most : pushes h ≤ 2147483648 = pushes_most b.state.settings h run in
     let refused : refusals h ≤ pushes h = refused_few h in
     record { out = omega (arith, k.out); lost = omega (arith, k.lost); refused = omega (arith, k.refused) }
@@ -159,9 +180,9 @@ pub fresh_counted : (b : Buffer) → Stands b [] → IsCounted b (record { out =
 fresh_counted b st = ∣ ([], record { stands = st; out = refl; lost = refl; refused = refl }) ∣₁
 
 -- the counts with a reply fit their types
-pub has_room : WindowLaw → (b : Buffer) (c : Counts) → IsCounted b c → HasRoom c
-has_room window b c k = record {
-  out = ∥∥₁_elim k (hlevel props) (λ x. (room_of window b c x.0 x.1).out);
-  lost = ∥∥₁_elim k (hlevel props) (λ x. (room_of window b c x.0 x.1).lost);
-  refused = ∥∥₁_elim k (hlevel props) (λ x. (room_of window b c x.0 x.1).refused);
+pub has_room : CoverLaws → (b : Buffer) (c : Counts) → IsCounted b c → HasRoom c
+has_room laws b c k = record {
+  out = ∥∥₁_elim k (hlevel props) (λ x. (room_of laws b c x.0 x.1).out);
+  lost = ∥∥₁_elim k (hlevel props) (λ x. (room_of laws b c x.0 x.1).lost);
+  refused = ∥∥₁_elim k (hlevel props) (λ x. (room_of laws b c x.0 x.1).refused);
 }

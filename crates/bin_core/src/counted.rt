@@ -11,7 +11,7 @@ ghost use Rattle.bin_core.specs.Totals.{turn_out, turn_lost, refusal, with_turn,
 
 use crate::counting::{push, turn};
 use jitter_core::{Arrival, Buffer, Pushed, Turn, Verdict};
-use jitter_model::laws::accepted_in_window;
+use jitter_model::laws::{accepted_in_window, covers_from_next};
 use log_model::Source;
 
 /// What the replies of a lane came to.
@@ -71,8 +71,9 @@ pub fn take_turn(lane: &mut Lane) -> Turn
     ensures left { is_quiet result ≡ false → left_of lane.new.buffer < left_of lane.old.buffer }
     ensures later { IsLater (now_of lane.old.buffer) (wake_of result) }
 {
-    // A law for the proof; the call does nothing.
+    // Laws for the proof; the calls do nothing.
     accepted_in_window();
+    covers_from_next();
     let turn = turn(&mut lane.buffer);
     lane.counts = count_turn(lane.counts, &turn);
     turn
@@ -110,8 +111,9 @@ pub fn push_arrival(lane: &mut Lane, arrival: Arrival) -> Pushed
     ensures value { (h : History) → Stands lane.old.buffer h → result ≡ reply_to_push (settings_of lane.old.buffer) h arrival }
     ensures stands { (h : History) → Stands lane.old.buffer h → Stands lane.new.buffer (Push arrival result.verdict result.number result.aside_dropped ∷ h) }
 {
-    // A law for the proof; the call does nothing.
+    // Laws for the proof; the calls do nothing.
     accepted_in_window();
+    covers_from_next();
     let answer = push(&mut lane.buffer, arrival);
     lane.counts = count_push(lane.counts, answer.verdict);
     answer

@@ -1,13 +1,15 @@
 -- Replies cover numbers from the lowest one on.
-use Rattle.std.proofs.Common.{ℕ, zero, suc, ◌≡◌, ◌+◌, ◌-◌, ◌≤◌, ◌<◌, Bool, true, false, refl, sym, subst, List, [], ◌∷◌, ◌++◌, Option, None, Some, arith}
-use Rattle.std.specs.Prelude.{⊤, if◌then◌else◌}
+use Rattle.std.proofs.Common.{ℕ, zero, suc, ◌≡◌, ◌+◌, ◌-◌, ◌≤◌, ◌<◌, Bool, true, false, refl, sym, ap, subst, List, [], ◌∷◌, ◌++◌, Option, None, Some, arith}
+use Rattle.std.specs.Prelude.{⊤, if◌then◌else◌, unwrap_or}
 use Rattle.std.proofs.lemmas.Grind.{common_steps}
 use Rattle.jitter_model.specs.declared.Settings.{Settings}
 use Rattle.jitter_model.specs.declared.Held.{Held}
+use Rattle.jitter_model.specs.declared.Packet.{Packet as PacketOf}
 use Rattle.jitter_model.specs.declared.Turn.{Turn}
 use Rattle.jitter_model.specs.declared.Turn.TheVariants.{Packet, Lost, Request, End, Idle, Flushing}
 use Rattle.jitter_model.specs.declared.Entry.TheVariants.{Push, Clock, FlushStart, FlushStop, Latency, Report, Ends, Turned}
 use Rattle.jitter_model.specs.History.{History, is_flushing}
+use Rattle.jitter_model.specs.Accepted.{least, accepted}
 use Rattle.jitter_model.specs.Covered.{opens, next, next_after, numbers_from, covered_after, covered}
 use Rattle.jitter_model.specs.Requests.{Asked}
 use Rattle.jitter_model.specs.Turns.{Sight, low, asked, may_start, may_give, is_lost, ends_loss, loss_end, packet_turn, request_turn, lost_turn, turn_by, sight, turn}
@@ -62,6 +64,21 @@ turn_covers s v o =
 
 pub covers : (s : Settings) (h : History) (r : Turn) → r ≡ turn s h → Covering (sight s h) (next h) r
 covers s h r e = subst (λ r. Covering (sight s h) (next h) r) (sym e) (turn_covers s (sight s h) (next h))
+
+-- what is covered begins at the next number
+packet_first : (v : Sight) (o : Option ℕ) (n pts : ℕ) (p : PacketOf) → Covers v o (Packet n pts p) → n ≡ unwrap_or o v.least
+packet_first v None n pts p c = c.0
+packet_first v (Some k) n pts p c = c.0
+
+loss_first : (v : Sight) (o : Option ℕ) (n count pts d : ℕ) → Covers v o (Lost n count pts d) → o ≡ Some n
+loss_first v None n count pts d c = absurd c
+loss_first v (Some k) n count pts d c = ap (λ (m : ℕ). Some m) (sym c.0)
+
+pub packet_is_next : (s : Settings) (h : History) (n pts : ℕ) (p : PacketOf) → Run s (Turned (Packet n pts p) ∷ h) → n ≡ unwrap_or (next h) (unwrap_or (least (accepted h)) 0)
+packet_is_next s h n pts p run = packet_first (sight s h) (next h) n pts p (covers s h (Packet n pts p) run.0).fact
+
+pub loss_is_next : (s : Settings) (h : History) (n count pts d : ℕ) → Run s (Turned (Lost n count pts d) ∷ h) → next h ≡ Some n
+loss_is_next s h n count pts d run = loss_first (sight s h) (next h) n count pts d (covers s h (Lost n count pts d) run.0).fact
 
 -- ---- the covered numbers are consecutive
 

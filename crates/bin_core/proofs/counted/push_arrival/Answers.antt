@@ -10,7 +10,7 @@ push-answer-requires-clause-pusher c = ap (λ (n : ℕ). is_pusher n c.args.arri
 
 pub count_push-lane-requires : goal.count_push-lane-requires
 count_push-lane-requires c =
-    (has_room c.accepted_in_window.ensures.window c.push-answer.new.buffer (with_push c.args.lane.now.counts c.push-answer.result.verdict)
+    (has_room (record { window = c.accepted_in_window.ensures.window; packet = c.covers_from_next.ensures.packet; loss = c.covers_from_next.ensures.loss }) c.push-answer.new.buffer (with_push c.args.lane.now.counts c.push-answer.result.verdict)
     (push_counted c.args.lane.now.buffer c.push-answer.new.buffer c.args.lane.now.counts c.args.arrival c.push-answer.result.verdict c.push-answer.result.number c.push-answer.result.aside_dropped c.push-answer.ensures.stands c.args.lane.now.counted)).refused
 
 pub invariant_of-lane : goal.invariant_of-lane
