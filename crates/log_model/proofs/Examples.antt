@@ -1,5 +1,5 @@
 -- The log on examples that were worked out by hand. Times are in milliseconds where `ms` stands.
-use Rattle.std.specs.Prelude.{ℕ, ◌+◌, ◌*◌, ◌/◌, ◌%◌, ◌≡◌, ◌++◌, Bool, true, false, List, [], ◌∷◌, Some, None, refl}
+use Rattle.std.specs.Prelude.{ℕ, ◌*◌, ◌/◌, ◌%◌, ◌≡◌, ◌++◌, false, List, [], ◌∷◌, refl}
 use Rattle.rtp_units.specs.declared.Mode.TheVariants.{Plain}
 use Rattle.pcap_file.specs.Numbers.{number_at}
 use Rattle.pcap_file.specs.Datagrams.{udp, ipv4, by_type, untagged, ethernet, frame, datagram_of}
@@ -13,7 +13,7 @@ use Rattle.log_model.specs.declared.Profile.{Profile}
 use Rattle.log_model.specs.declared.Item.{Item}
 use Rattle.log_model.specs.declared.Control.{Control}
 use Rattle.log_model.specs.declared.Control.TheVariants.{Clock, FlushStart, FlushStop, Latency}
-use Rattle.log_model.specs.Times.{Timed, at_times}
+use Rattle.log_model.specs.Times.{at_times}
 use Rattle.pcap_file.specs.Capture.{Record}
 use Rattle.log_model.specs.Inputs.{all_inputs}
 use Rattle.log_model.specs.Captured.{pushers_of}

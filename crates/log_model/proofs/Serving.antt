@@ -8,12 +8,11 @@ use Rattle.jitter_model.specs.History.{History}
 use Rattle.jitter_model.specs.Turns.{turn, wake_of}
 use Rattle.jitter_model.specs.Laws.{IsLater, IsBelow}
 use Rattle.jitter_model.specs.Runs.{Run}
-use Rattle.jitter_model.proofs.Bounds.{wakes_below}
 use Rattle.log_model.specs.declared.TheConstants.{END_OF_TIME}
 use Rattle.log_model.specs.Events.{Timeline, lane, latest}
 use Rattle.log_model.specs.Waking.{Wake, ticked, wake, with_wake, first_wake, due, room, rooms, serve, serve_due, served}
 use Rattle.log_model.proofs.Lanes.{by_cases}
-use Rattle.log_model.proofs.Turning.{ticked_later, ticked_other, ticked_latest, entered_run}
+use Rattle.log_model.proofs.Turning.{WakesLater, ticked_later, ticked_other, ticked_latest, entered_run}
 
 -- a wake that was found is a lane's
 abbrev pub IsIn : (ℕ → Option ℕ) → ℕ → Option Wake → Type 0
@@ -89,10 +88,10 @@ rooms_fall limit t old new (suc k) l lt le is later same =
 abbrev pub next_due : Settings → ℕ → ℕ → Timeline → Option Wake
 next_due s count limit tl = due limit (first_wake (wake s tl) count)
 
-served_falls : (s : Settings) (count limit : ℕ) (tl : Timeline) (w : Wake) → next_due s count limit tl ≡ Some w → rooms limit (wake s (ticked s w.time w.lane tl)) count < rooms limit (wake s tl) count
-served_falls s count limit tl w e =
+served_falls : WakesLater → (s : Settings) (count limit : ℕ) (tl : Timeline) (w : Wake) → next_due s count limit tl ≡ Some w → rooms limit (wake s (ticked s w.time w.lane tl)) count < rooms limit (wake s tl) count
+served_falls rising s count limit tl w e =
     let d : IsDue (wake s tl) count limit w = due_is (wake s tl) count limit w e in
-    rooms_fall limit w.time (wake s tl) (wake s (ticked s w.time w.lane tl)) count w.lane d.below d.le d.is (ticked_later s w.time w.lane tl)
+    rooms_fall limit w.time (wake s tl) (wake s (ticked s w.time w.lane tl)) count w.lane d.below d.le d.is (ticked_later rising s w.time w.lane tl)
     (λ k ne. ap (λ (h : History). wake_of (turn s h)) (ticked_other s w.time w.lane k tl (λ e. ne (sym e))))
 
 pub serve_none : (n : ℕ) (s : Settings) (count limit : ℕ) (tl : Timeline) → next_due s count limit tl ≡ None → serve n s count limit tl ≡ tl
@@ -107,40 +106,40 @@ pub by_option : {A : Type 0} {P : Type 0} (o : Option A) → (o ≡ None → P) 
 by_option None f g = f refl
 by_option (Some x) f g = g x refl
 
-no_room : (s : Settings) (count limit : ℕ) (tl : Timeline) → rooms limit (wake s tl) count ≤ 0 → next_due s count limit tl ≡ None
-no_room s count limit tl le =
+no_room : WakesLater → (s : Settings) (count limit : ℕ) (tl : Timeline) → rooms limit (wake s tl) count ≤ 0 → next_due s count limit tl ≡ None
+no_room rising s count limit tl le =
     by_option (next_due s count limit tl) (λ e. e)
-    (λ w e. absurd (let f : rooms limit (wake s (ticked s w.time w.lane tl)) count < rooms limit (wake s tl) count = served_falls s count limit tl w e in omega arith))
+    (λ w e. absurd (let f : rooms limit (wake s (ticked s w.time w.lane tl)) count < rooms limit (wake s tl) count = served_falls rising s count limit tl w e in omega arith))
 
-pub serve_enough : (n m : ℕ) (s : Settings) (count limit : ℕ) (tl : Timeline) → rooms limit (wake s tl) count ≤ n → rooms limit (wake s tl) count ≤ m → serve n s count limit tl ≡ serve m s count limit tl
-serve_enough zero m s count limit tl a b = sym (serve_none m s count limit tl (no_room s count limit tl a))
-serve_enough (suc n) zero s count limit tl a b = serve_none (suc n) s count limit tl (no_room s count limit tl b)
-serve_enough (suc n) (suc m) s count limit tl a b =
+pub serve_enough : WakesLater → (n m : ℕ) (s : Settings) (count limit : ℕ) (tl : Timeline) → rooms limit (wake s tl) count ≤ n → rooms limit (wake s tl) count ≤ m → serve n s count limit tl ≡ serve m s count limit tl
+serve_enough rising zero m s count limit tl a b = sym (serve_none m s count limit tl (no_room rising s count limit tl a))
+serve_enough rising (suc n) zero s count limit tl a b = serve_none (suc n) s count limit tl (no_room rising s count limit tl b)
+serve_enough rising (suc n) (suc m) s count limit tl a b =
     by_option (next_due s count limit tl)
     (λ e. serve_none (suc n) s count limit tl e ∙ sym (serve_none (suc m) s count limit tl e))
-    (λ w e. let f : rooms limit (wake s (ticked s w.time w.lane tl)) count < rooms limit (wake s tl) count = served_falls s count limit tl w e in
-    serve_some n s count limit tl w e ∙ serve_enough n m s count limit (ticked s w.time w.lane tl) (omega arith) (omega arith) ∙ sym (serve_some m s count limit tl w e))
+    (λ w e. let f : rooms limit (wake s (ticked s w.time w.lane tl)) count < rooms limit (wake s tl) count = served_falls rising s count limit tl w e in
+    serve_some n s count limit tl w e ∙ serve_enough rising n m s count limit (ticked s w.time w.lane tl) (omega arith) (omega arith) ∙ sym (serve_some m s count limit tl w e))
 
 pub served_none : (s : Settings) (count limit : ℕ) (tl : Timeline) → next_due s count limit tl ≡ None → served s count limit tl ≡ tl
 served_none s count limit tl e = serve_none (rooms limit (wake s tl) count) s count limit tl e
 
-pub served_step : (s : Settings) (count limit : ℕ) (tl : Timeline) (w : Wake) → next_due s count limit tl ≡ Some w → served s count limit tl ≡ served s count limit (ticked s w.time w.lane tl)
-served_step s count limit tl w e =
-    let f : rooms limit (wake s (ticked s w.time w.lane tl)) count < rooms limit (wake s tl) count = served_falls s count limit tl w e in
-    serve_enough (rooms limit (wake s tl) count) (suc (rooms limit (wake s tl) count)) s count limit tl (omega arith) (omega arith)
+pub served_step : WakesLater → (s : Settings) (count limit : ℕ) (tl : Timeline) (w : Wake) → next_due s count limit tl ≡ Some w → served s count limit tl ≡ served s count limit (ticked s w.time w.lane tl)
+served_step rising s count limit tl w e =
+    let f : rooms limit (wake s (ticked s w.time w.lane tl)) count < rooms limit (wake s tl) count = served_falls rising s count limit tl w e in
+    serve_enough rising (rooms limit (wake s tl) count) (suc (rooms limit (wake s tl) count)) s count limit tl (omega arith) (omega arith)
     ∙ serve_some (rooms limit (wake s tl) count) s count limit tl w e
-    ∙ serve_enough (rooms limit (wake s tl) count) (rooms limit (wake s (ticked s w.time w.lane tl)) count) s count limit (ticked s w.time w.lane tl) (omega arith) (omega arith)
+    ∙ serve_enough rising (rooms limit (wake s tl) count) (rooms limit (wake s (ticked s w.time w.lane tl)) count) s count limit (ticked s w.time w.lane tl) (omega arith) (omega arith)
 
-pub serve_ends : (n : ℕ) (s : Settings) (count limit : ℕ) (tl : Timeline) → rooms limit (wake s tl) count ≤ n → next_due s count limit (serve n s count limit tl) ≡ None
-serve_ends zero s count limit tl a = no_room s count limit tl a
-serve_ends (suc n) s count limit tl a =
+pub serve_ends : WakesLater → (n : ℕ) (s : Settings) (count limit : ℕ) (tl : Timeline) → rooms limit (wake s tl) count ≤ n → next_due s count limit (serve n s count limit tl) ≡ None
+serve_ends rising zero s count limit tl a = no_room rising s count limit tl a
+serve_ends rising (suc n) s count limit tl a =
     by_option (next_due s count limit tl)
     (λ e. subst (λ (x : Timeline). next_due s count limit x ≡ None) (sym (serve_none (suc n) s count limit tl e)) e)
-    (λ w e. let f : rooms limit (wake s (ticked s w.time w.lane tl)) count < rooms limit (wake s tl) count = served_falls s count limit tl w e in
-    subst (λ (x : Timeline). next_due s count limit x ≡ None) (sym (serve_some n s count limit tl w e)) (serve_ends n s count limit (ticked s w.time w.lane tl) (omega arith)))
+    (λ w e. let f : rooms limit (wake s (ticked s w.time w.lane tl)) count < rooms limit (wake s tl) count = served_falls rising s count limit tl w e in
+    subst (λ (x : Timeline). next_due s count limit x ≡ None) (sym (serve_some n s count limit tl w e)) (serve_ends rising n s count limit (ticked s w.time w.lane tl) (omega arith)))
 
-pub served_ends : (s : Settings) (count limit : ℕ) (tl : Timeline) → next_due s count limit (served s count limit tl) ≡ None
-served_ends s count limit tl = serve_ends (rooms limit (wake s tl) count) s count limit tl (omega arith)
+pub served_ends : WakesLater → (s : Settings) (count limit : ℕ) (tl : Timeline) → next_due s count limit (served s count limit tl) ≡ None
+served_ends rising s count limit tl = serve_ends rising (rooms limit (wake s tl) count) s count limit tl (omega arith)
 
 -- ---- times
 
@@ -183,10 +182,14 @@ serve_runs (suc n) s many count limit tl lt runs =
 pub served_runs : (s : Settings) (many count limit : ℕ) (tl : Timeline) → limit < 2 ^ 63 + 2 ^ 50 → AreRuns s many tl → AreRuns s many (served s count limit tl)
 served_runs s many count limit tl lt runs = serve_runs (rooms limit (wake s tl) count) s many count limit tl lt runs
 
-bounded : (s : Settings) (count : ℕ) (tl : Timeline) (o : Option Wake) → AreRuns s count tl → IsIn (wake s tl) count o → due END_OF_TIME o ≡ None → o ≡ None
-bounded s count tl None runs h = λ e. refl
-bounded s count tl (Some w) runs h =
-    let below : IsBelow 9223372646854775808 (Some w.time) = subst (IsBelow 9223372646854775808) h.1 (wakes_below s (lane w.lane tl) (runs w.lane h.0)) in
+-- what a law of the list machine says of wakes
+abbrev pub WakesBelow : Type 0
+WakesBelow = (s : Settings) (h : History) → Run s h → IsBelow 9223372646854775808 (wake_of (turn s h))
+
+bounded : WakesBelow → (s : Settings) (count : ℕ) (tl : Timeline) (o : Option Wake) → AreRuns s count tl → IsIn (wake s tl) count o → due END_OF_TIME o ≡ None → o ≡ None
+bounded below s count tl None runs h = λ e. refl
+bounded below s count tl (Some w) runs h =
+    let small : IsBelow 9223372646854775808 (Some w.time) = subst (IsBelow 9223372646854775808) h.1 (below s (lane w.lane tl) (runs w.lane h.0)) in
     let le : nat_le w.time END_OF_TIME ≡ true = grind (arith, common_steps) in
     λ e. absurd (differ w (sym (ap (λ (b : Bool). if b then Some w else None) le) ∙ e))
   where
@@ -194,7 +197,7 @@ bounded s count tl (Some w) runs h =
     differ w e = cc
 
 -- where every lane is a run, no wake at all is left
-pub none_left_at_end : (s : Settings) (count : ℕ) (tl : Timeline) → AreRuns s count tl → first_wake (wake s (served s count END_OF_TIME tl)) count ≡ None
-none_left_at_end s count tl runs =
+pub none_left_at_end : WakesLater → WakesBelow → (s : Settings) (count : ℕ) (tl : Timeline) → AreRuns s count tl → first_wake (wake s (served s count END_OF_TIME tl)) count ≡ None
+none_left_at_end rising below s count tl runs =
     let after : Timeline = served s count END_OF_TIME tl in
-    bounded s count after (first_wake (wake s after) count) (served_runs s count count END_OF_TIME tl (omega arith) runs) (first_in (wake s after) count) (served_ends s count END_OF_TIME tl)
+    bounded below s count after (first_wake (wake s after) count) (served_runs s count count END_OF_TIME tl (omega arith) runs) (first_in (wake s after) count) (served_ends rising s count END_OF_TIME tl)

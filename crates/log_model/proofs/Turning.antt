@@ -5,18 +5,23 @@ use Rattle.jitter_model.specs.declared.Settings.{Settings}
 use Rattle.jitter_model.specs.declared.Entry.{Entry}
 use Rattle.jitter_model.specs.declared.Entry.TheVariants.{Turned, Clock}
 use Rattle.jitter_model.specs.History.{History, now}
-use Rattle.jitter_model.specs.Turns.{turn, is_quiet, left}
+use Rattle.jitter_model.specs.Turns.{turn, is_quiet, wake_of, left}
 use Rattle.jitter_model.specs.Laws.{IsLater}
 use Rattle.jitter_model.specs.Runs.{Run}
-use Rattle.jitter_model.proofs.Falling.{left_falls}
-use Rattle.jitter_model.proofs.Waking.{wake_later}
 use Rattle.log_model.specs.Events.{Timeline, At, lane, latest}
 use Rattle.log_model.specs.Waking.{turned, turns, settled, ticked, wake}
 use Rattle.log_model.proofs.Lanes.{lane_here, lane_other, by_cases}
 
-turned_left : (s : Settings) (t l : ℕ) (tl : Timeline) → is_quiet (turn s (lane l tl)) ≡ false → left s (lane l (turned s t l tl)) < left s (lane l tl)
-turned_left s t l tl i =
-    subst (λ (h : History). left s h < left s (lane l tl)) (sym (lane_here t l (Turned (turn s (lane l tl))) tl)) (left_falls s (lane l tl) i)
+-- what the laws of the list machine say of turns and of wakes
+abbrev pub TurnsFall : Type 0
+TurnsFall = (s : Settings) (h : History) → is_quiet (turn s h) ≡ false → left s (Turned (turn s h) ∷ h) < left s h
+
+abbrev pub WakesLater : Type 0
+WakesLater = (s : Settings) (h : History) → IsLater (now h) (wake_of (turn s h))
+
+turned_left : TurnsFall → (s : Settings) (t l : ℕ) (tl : Timeline) → is_quiet (turn s (lane l tl)) ≡ false → left s (lane l (turned s t l tl)) < left s (lane l tl)
+turned_left falls s t l tl i =
+    subst (λ (h : History). left s h < left s (lane l tl)) (sym (lane_here t l (Turned (turn s (lane l tl))) tl)) (falls s (lane l tl) i)
 
 -- no turn where one is quiet
 pub turns_quiet : (n : ℕ) (s : Settings) (t l : ℕ) (tl : Timeline) → is_quiet (turn s (lane l tl)) ≡ true → turns n s t l tl ≡ tl
@@ -26,40 +31,40 @@ turns_quiet (suc n) s t l tl i = ap (λ (b : Bool). if b then tl else turns n s 
 pub turns_more : (n : ℕ) (s : Settings) (t l : ℕ) (tl : Timeline) → is_quiet (turn s (lane l tl)) ≡ false → turns (suc n) s t l tl ≡ turns n s t l (turned s t l tl)
 turns_more n s t l tl i = ap (λ (b : Bool). if b then tl else turns n s t l (turned s t l tl)) i
 
-none_left : (s : Settings) (t l : ℕ) (tl : Timeline) → left s (lane l tl) ≤ 0 → is_quiet (turn s (lane l tl)) ≡ true
-none_left s t l tl le =
-    by_cases (is_quiet (turn s (lane l tl))) (λ i. i) (λ i. absurd (let f : left s (lane l (turned s t l tl)) < left s (lane l tl) = turned_left s t l tl i in omega arith))
+none_left : TurnsFall → (s : Settings) (t l : ℕ) (tl : Timeline) → left s (lane l tl) ≤ 0 → is_quiet (turn s (lane l tl)) ≡ true
+none_left falls s t l tl le =
+    by_cases (is_quiet (turn s (lane l tl))) (λ i. i) (λ i. absurd (let f : left s (lane l (turned s t l tl)) < left s (lane l tl) = turned_left falls s t l tl i in omega arith))
 
 -- any count that is enough comes to the same
-turns_enough : (n m : ℕ) (s : Settings) (t l : ℕ) (tl : Timeline) → left s (lane l tl) ≤ n → left s (lane l tl) ≤ m → turns n s t l tl ≡ turns m s t l tl
-turns_enough zero m s t l tl a b = sym (turns_quiet m s t l tl (none_left s t l tl a))
-turns_enough (suc n) zero s t l tl a b = turns_quiet (suc n) s t l tl (none_left s t l tl b)
-turns_enough (suc n) (suc m) s t l tl a b =
+turns_enough : TurnsFall → (n m : ℕ) (s : Settings) (t l : ℕ) (tl : Timeline) → left s (lane l tl) ≤ n → left s (lane l tl) ≤ m → turns n s t l tl ≡ turns m s t l tl
+turns_enough falls zero m s t l tl a b = sym (turns_quiet m s t l tl (none_left falls s t l tl a))
+turns_enough falls (suc n) zero s t l tl a b = turns_quiet (suc n) s t l tl (none_left falls s t l tl b)
+turns_enough falls (suc n) (suc m) s t l tl a b =
     by_cases (is_quiet (turn s (lane l tl)))
     (λ i. turns_quiet (suc n) s t l tl i ∙ sym (turns_quiet (suc m) s t l tl i))
-    (λ i. let f : left s (lane l (turned s t l tl)) < left s (lane l tl) = turned_left s t l tl i in
-    turns_more n s t l tl i ∙ turns_enough n m s t l (turned s t l tl) (omega arith) (omega arith) ∙ sym (turns_more m s t l tl i))
+    (λ i. let f : left s (lane l (turned s t l tl)) < left s (lane l tl) = turned_left falls s t l tl i in
+    turns_more n s t l tl i ∙ turns_enough falls n m s t l (turned s t l tl) (omega arith) (omega arith) ∙ sym (turns_more m s t l tl i))
 
 pub settled_quiet : (s : Settings) (t l : ℕ) (tl : Timeline) → is_quiet (turn s (lane l tl)) ≡ true → settled s t l tl ≡ tl
 settled_quiet s t l tl i = turns_quiet (left s (lane l tl)) s t l tl i
 
-pub settled_step : (s : Settings) (t l : ℕ) (tl : Timeline) → is_quiet (turn s (lane l tl)) ≡ false → settled s t l tl ≡ settled s t l (turned s t l tl)
-settled_step s t l tl i =
-    let f : left s (lane l (turned s t l tl)) < left s (lane l tl) = turned_left s t l tl i in
-    turns_enough (left s (lane l tl)) (suc (left s (lane l tl))) s t l tl (omega arith) (omega arith)
+pub settled_step : TurnsFall → (s : Settings) (t l : ℕ) (tl : Timeline) → is_quiet (turn s (lane l tl)) ≡ false → settled s t l tl ≡ settled s t l (turned s t l tl)
+settled_step falls s t l tl i =
+    let f : left s (lane l (turned s t l tl)) < left s (lane l tl) = turned_left falls s t l tl i in
+    turns_enough falls (left s (lane l tl)) (suc (left s (lane l tl))) s t l tl (omega arith) (omega arith)
     ∙ turns_more (left s (lane l tl)) s t l tl i
-    ∙ turns_enough (left s (lane l tl)) (left s (lane l (turned s t l tl))) s t l (turned s t l tl) (omega arith) (omega arith)
+    ∙ turns_enough falls (left s (lane l tl)) (left s (lane l (turned s t l tl))) s t l (turned s t l tl) (omega arith) (omega arith)
 
-turns_settle : (n : ℕ) (s : Settings) (t l : ℕ) (tl : Timeline) → left s (lane l tl) ≤ n → is_quiet (turn s (lane l (turns n s t l tl))) ≡ true
-turns_settle zero s t l tl a = none_left s t l tl a
-turns_settle (suc n) s t l tl a =
+turns_settle : TurnsFall → (n : ℕ) (s : Settings) (t l : ℕ) (tl : Timeline) → left s (lane l tl) ≤ n → is_quiet (turn s (lane l (turns n s t l tl))) ≡ true
+turns_settle falls zero s t l tl a = none_left falls s t l tl a
+turns_settle falls (suc n) s t l tl a =
     by_cases (is_quiet (turn s (lane l tl)))
     (λ i. subst (λ (x : Timeline). is_quiet (turn s (lane l x)) ≡ true) (sym (turns_quiet (suc n) s t l tl i)) i)
-    (λ i. let f : left s (lane l (turned s t l tl)) < left s (lane l tl) = turned_left s t l tl i in
-    subst (λ (x : Timeline). is_quiet (turn s (lane l x)) ≡ true) (sym (turns_more n s t l tl i)) (turns_settle n s t l (turned s t l tl) (omega arith)))
+    (λ i. let f : left s (lane l (turned s t l tl)) < left s (lane l tl) = turned_left falls s t l tl i in
+    subst (λ (x : Timeline). is_quiet (turn s (lane l x)) ≡ true) (sym (turns_more n s t l tl i)) (turns_settle falls n s t l (turned s t l tl) (omega arith)))
 
-pub settled_rests : (s : Settings) (t l : ℕ) (tl : Timeline) → is_quiet (turn s (lane l (settled s t l tl))) ≡ true
-settled_rests s t l tl = turns_settle (left s (lane l tl)) s t l tl (omega arith)
+pub settled_rests : TurnsFall → (s : Settings) (t l : ℕ) (tl : Timeline) → is_quiet (turn s (lane l (settled s t l tl))) ≡ true
+settled_rests falls s t l tl = turns_settle falls (left s (lane l tl)) s t l tl (omega arith)
 
 -- turns leave the time, the other lanes and the greatest time
 turns_now : (n : ℕ) (s : Settings) (t l : ℕ) (tl : Timeline) → now (lane l (turns n s t l tl)) ≡ now (lane l tl)
@@ -85,11 +90,11 @@ turns_latest (suc n) s t l tl le =
     ap latest (turns_more n s t l tl i) ∙ turns_latest n s t l (turned s t l tl) (omega arith) ∙ e)
 
 -- after a tick a lane's wake is later, and the other lanes are as before
-pub ticked_later : (s : Settings) (t l : ℕ) (tl : Timeline) → IsLater t (wake s (ticked s t l tl) l)
-ticked_later s t l tl =
+pub ticked_later : WakesLater → (s : Settings) (t l : ℕ) (tl : Timeline) → IsLater t (wake s (ticked s t l tl) l)
+ticked_later rising s t l tl =
     let after : Timeline = ticked s t l tl in
     let time : now (lane l after) ≡ max t (now (lane l tl)) = turns_now _ s t l (At t l (Clock t) ∷ tl) ∙ ap now (lane_here t l (Clock t) tl) in
-    later _ _ (wake s after l) (wake_later s (lane l after)) (subst (λ (n : ℕ). t ≤ n) (sym time) (omega arith))
+    later _ _ (wake s after l) (rising s (lane l after)) (subst (λ (n : ℕ). t ≤ n) (sym time) (omega arith))
   where
     later : (t n : ℕ) (o : Option ℕ) → IsLater n o → t ≤ n → IsLater t o
     later t n None h le = tt

@@ -17,6 +17,8 @@ ghost use Rattle.log_model.specs.Log.{timeline, log_part, log, Begins};
 ghost use Rattle.log_model.specs.Captured.{IsReplay};
 ghost use Rattle.log_model.specs.declared.TheConstants.{END_OF_TIME as LAST};
 
+use jitter_model::laws::{turns_run_out, wakes_are_bounded, wakes_are_later};
+
 /// Without inputs nothing is told. What is told of some inputs begins what is told of them and more, and the
 /// whole log of these.
 pub fn goes_on()
@@ -57,14 +59,20 @@ pub fn turns_come_to_rest()
     ensures rest { (s : Settings) (t l : ℕ) (tl : Timeline) → is_quiet (turn s (lane l (settled s t l tl))) ≡ true }
     ensures stop { (s : Settings) (t l : ℕ) (tl : Timeline) → is_quiet (turn s (lane l tl)) ≡ true → settled s t l tl ≡ tl }
     ensures step { (s : Settings) (t l : ℕ) (tl : Timeline) → is_quiet (turn s (lane l tl)) ≡ false → settled s t l tl ≡ settled s t l (turned s t l tl) }
-{}
+{
+    // A law for the proof; the call does nothing.
+    turns_run_out();
+}
 
 /// Wakes up to a limit are served until none is due: the definition's count of them is enough.
 pub fn serves_all()
     ensures none { (s : Settings) (count limit : ℕ) (tl : Timeline) → due limit (first_wake (wake s (served s count limit tl)) count) ≡ None }
     ensures stop { (s : Settings) (count limit : ℕ) (tl : Timeline) → due limit (first_wake (wake s tl) count) ≡ None → served s count limit tl ≡ tl }
     ensures step { (s : Settings) (count limit : ℕ) (tl : Timeline) (w : Wake) → due limit (first_wake (wake s tl) count) ≡ Some w → served s count limit tl ≡ served s count limit (ticked s w.time w.lane tl) }
-{}
+{
+    // A law for the proof; the call does nothing.
+    wakes_are_later();
+}
 
 /// After a tick the latest time is at least the tick's, and wakes up to a limit leave no later time than that.
 pub fn time_goes_on()
@@ -81,4 +89,8 @@ pub fn lanes_are_runs()
 pub fn leaves_no_wake()
     ensures runs { (s : Settings) (count : ℕ) (tl : Timeline) → ((l : ℕ) → l < count → Run s (lane l tl)) → first_wake (wake s (served s count LAST tl)) count ≡ None }
     ensures replay { (s : Profile) (xs : List Input) → IsReplay s xs → (count : ℕ) → first_wake (wake s.settings (served s.settings count LAST (timeline s (reverse xs)))) count ≡ None }
-{}
+{
+    // Laws for the proof; the calls do nothing.
+    wakes_are_later();
+    wakes_are_bounded();
+}

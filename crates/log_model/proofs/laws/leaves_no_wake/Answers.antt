@@ -5,7 +5,7 @@ use Rattle.log_model.proofs.Serving.{none_left_at_end}
 use Rattle.log_model.proofs.laws.leaves_no_wake.Goals as goal
 
 pub returns-clause-runs : goal.returns-clause-runs
-returns-clause-runs c = none_left_at_end
+returns-clause-runs c = none_left_at_end c.wakes_are_later.ensures c.wakes_are_bounded.ensures
 
 pub returns-clause-replay : goal.returns-clause-replay
-returns-clause-replay c = λ s xs h count. none_left_at_end s.settings count (timeline s (reverse xs)) (λ l _. lanes_run s xs h l)
+returns-clause-replay c = λ s xs h count. none_left_at_end c.wakes_are_later.ensures c.wakes_are_bounded.ensures s.settings count (timeline s (reverse xs)) (λ l _. lanes_run s xs h l)
