@@ -8,11 +8,10 @@ packets are held as the latency has milliseconds. The rate should not fall with 
 packet doesn't grow with what is held.
 """
 import os
-import struct
 import sys
 import tempfile
 
-from packets import frame, seconds
+from packets import seconds, write_capture
 
 SCRIPT = 'session 0 5004 5005\npt 0 96 90000\nset latency %d\nset probation 0\nset mode none\n'
 LATENCIES = (125, 500, 2_000, 8_000)
@@ -20,14 +19,9 @@ COUNT = 200_000
 RUNS = 3
 
 
-def write_capture(path, latency):
-    with open(path, 'wb') as file:
-        file.write(struct.pack('<IHHiIII', 0xa1b2c3d4, 2, 4, 0, 0, 262144, 1))
-        for i in range(COUNT):
-            if i % (2 * latency) == 7:
-                continue
-            bytes_ = frame(i + 1, 90 * i)
-            file.write(struct.pack('<IIII', i // 1000, i % 1000 * 1000, len(bytes_), len(bytes_)) + bytes_)
+def arrivals(latency):
+    """(arrival in microseconds, index)."""
+    return ((i * 1000, i) for i in range(COUNT) if i % (2 * latency) != 7)
 
 
 def main():
@@ -39,7 +33,7 @@ def main():
         capture = os.path.join(folder, 'capture.pcap')
         script = os.path.join(folder, 'script')
         for latency in LATENCIES:
-            write_capture(capture, latency)
+            write_capture(capture, arrivals(latency))
             with open(script, 'w', encoding='ascii') as file:
                 file.write(SCRIPT % latency)
             rate = COUNT / min(seconds(program, capture, script) for _ in range(RUNS))

@@ -32,10 +32,11 @@ def arrivals(count):
     return sorted((i * 1000 + late.get(i, 0), i) for i in range(count) if i % 50 != 7)
 
 
-def write_capture(path, count):
+def write_capture(path, arriving):
+    """Each packet of `arriving` by its arrival in microseconds and its index."""
     with open(path, 'wb') as file:
         file.write(struct.pack('<IHHiIII', 0xa1b2c3d4, 2, 4, 0, 0, 262144, 1))
-        for at, i in arrivals(count):
+        for at, i in arriving:
             bytes_ = frame(i + 1, 90 * i)
             file.write(struct.pack('<IIII', at // 10**6, at % 10**6, len(bytes_), len(bytes_)) + bytes_)
 
@@ -58,7 +59,7 @@ def main():
             file.write(SCRIPT)
         for count in LENGTHS:
             capture = os.path.join(folder, 'capture.pcap')
-            write_capture(capture, count)
+            write_capture(capture, arrivals(count))
             rate = count / min(seconds(program, capture, script) for _ in range(RUNS))
             first = first or rate
             print('%9d packets: %9.0f a second, %.2f of the first' % (count, rate, rate / first))
