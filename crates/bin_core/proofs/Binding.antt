@@ -1,5 +1,5 @@
 -- A bin stands for inputs, the first of which is the first.
-use Rattle.std.proofs.Common.{ℕ, ◌≡◌, ◌+◌, false, refl, sym, ap, subst, ◌∙◌, List, [], ◌∷◌, ◌++◌, None, length, arith}
+use Rattle.std.proofs.Common.{ℕ, ◌≡◌, ◌+◌, false, refl, sym, ap, subst, ◌∙◌, List, [], ◌∷◌, ◌++◌, length, arith}
 use Rattle.std.specs.Prelude.{reverse}
 use Rattle.std.proofs.lemmas.List.{append_assoc, reverse-append}
 use Rattle.timeline.specs.declared.line.BinLine.{BinLine}
@@ -8,14 +8,29 @@ use Rattle.log_model.specs.Inputs.{Input, OfCapture, OfScript, records_in}
 use Rattle.log_model.specs.Events.{lines, done_line}
 use Rattle.log_model.specs.Log.{lanes_in, timeline, log_before_done}
 use Rattle.bin_core.specs.declared.bin.Bin.{Bin}
-use Rattle.bin_core.specs.Bins.{StandsFor, BinStands, TakesOn, Completes}
-use Rattle.bin_core.specs.Staging.{StageTakes, StageEnds}
+use Rattle.bin_core.specs.declared.lane.Lane.{Lane}
+use Rattle.bin_core.specs.declared.stage.Stage.{Stage}
+use Rattle.bin_core.specs.Bins.{StandsFor, BinStands, TakesOn, Completes, StageTakes, StageEnds, LanesStand}
 
-pub fresh_stands : (s : Profile) (bin : Bin) → bin.stage ≡ record { profile = s; standing = record { latency = s.settings.latency; flushing = false }; lane = None; records = 0; time = 0 } → BinStands s bin []
+-- the fields of a bin before any input
+pub record IsFresh (s : Profile) (stage : Stage) : Type 0 where
+  pub profile : stage.profile ≡ s
+  pub standing : stage.standing ≡ record { latency = s.settings.latency; flushing = false }
+  pub lanes : stage.lanes.items ≡ []
+  pub records : stage.records ≡ 0
+  pub time : stage.time ≡ 0
+
+pub fresh_stands : (s : Profile) (bin : Bin) → IsFresh s bin.stage → BinStands s bin []
 unfolding BinStands
-fresh_stands s bin e =
-    subst (λ stage. StandsFor s stage []) (sym e)
-    (record { profile = refl; standing = refl; records = refl; time = refl; lanes = record { source_is = refl; silent = refl; tallies = record { out = refl; lost = refl; refused = refl } } })
+fresh_stands s bin f =
+    record {
+      profile = f.profile;
+      standing = f.standing;
+      records = f.records;
+      time = f.time;
+      lanes = subst (λ (ls : List Lane). LanesStand s ls [] []) (sym f.lanes)
+          (record { sources_are = refl; each = λ k d lt. absurd (omega arith); wakes_are = λ k lt. absurd (omega arith); silent = λ k le. refl; tallies = record { out = refl; lost = refl; refused = refl } });
+    }
 
 pub takes_on :
     (s : Profile) (seen : List Input) (x : Input) (old new : Bin) (before after : List BinLine)

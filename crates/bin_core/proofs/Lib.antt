@@ -1,11 +1,15 @@
-pub mod Outcomes
 pub mod Histories
+pub mod Outcomes
 pub mod Totals
 pub mod Tallying
 pub mod Settling
 pub mod Entering
+pub mod Placing
+pub mod First
 pub mod Serving
-pub mod Staging
+pub mod Summing
 pub mod Fronting
 pub mod Timing
+pub mod Staging
 pub mod Binding
+pub mod Fitting

@@ -1,84 +1,93 @@
--- A loop that serves the wakes of one lane comes to the served timeline.
-use Rattle.std.proofs.Common.{ℕ, ◌≡◌, ◌<◌, ◌≤◌, true, false, refl, sym, ap, subst, ◌∙◌, List, Option, None, Some, arith, max}
-use Rattle.std.specs.Prelude.{nat_le, if◌then◌else◌}
-use Rattle.std.proofs.lemmas.Grind.{common_steps}
+-- A loop that serves the wakes of all lanes comes to the served timeline.
+use Rattle.std.proofs.Common.{ℕ, zero, suc, ◌≡◌, ◌≢◌, ◌<◌, true, false, refl, sym, ap, subst, ◌∙◌, List, Option, None, Some, length, arith, max}
+use Rattle.std.specs.Prelude.{get_or, set}
+use Rattle.std.proofs.lemmas.List.{length-set}
 use Rattle.jitter_model.specs.declared.Settings.{Settings}
 use Rattle.jitter_model.specs.Laws.{IsLater}
 use Rattle.timeline.specs.declared.line.BinLine.{BinLine}
+use Rattle.log_model.specs.declared.Wake.{Wake}
 use Rattle.log_model.specs.Events.{Timeline, latest}
-use Rattle.log_model.specs.Waking.{Wake, ticked, wake, with_wake, first_wake, due, served}
-use Rattle.bin_core.specs.declared.counted.Lane.{Lane}
-use Rattle.bin_core.specs.Stages.{due_time, room}
-use Rattle.bin_core.specs.Lanes.{Base, LaneTells, LaneRests, LaneServed}
+use Rattle.log_model.specs.Waking.{ticked, wake, with_wake, first_wake, due, rooms, served}
+use Rattle.bin_core.specs.declared.lane.Lane.{Lane}
+use Rattle.bin_core.specs.Lanes.{Base, LaneTells, LaneRests}
+use Rattle.bin_core.specs.AllLanes.{wakes_in, wakes_left, LanesOnWay, LanesRest, LanesServed, StayOnWay, AreServed}
+use Rattle.bin_core.proofs.Placing.{around, wakes_same, wakes_other, one_tells, all_rest}
 
-abbrev pub wake_at : ℕ → Wake
-wake_at t = record { time = t; lane = 0 }
+first_same : (f g : ℕ → Option ℕ) (n : ℕ) → ((k : ℕ) → k < n → f k ≡ g k) → first_wake f n ≡ first_wake g n
+first_same f g zero h = refl
+first_same f g (suc n) h =
+    ap (λ (o : Option Wake). with_wake o n (f n)) (first_same f g n (λ k lt. h k (omega arith))) ∙ ap (with_wake (first_wake g n) n) (h n (omega arith))
 
-none_due : (limit : ℕ) (o : Option ℕ) → due_time limit o ≡ None → due limit (with_wake None 0 o) ≡ None
-none_due limit None = λ e. refl
-none_due limit (Some t) =
-    elim (nat_le t limit) as (λ b. (if b then Some t else None) ≡ None → (if b then Some (wake_at t) else None) ≡ None) [
-      | true ↦ λ e. cc
-      | false ↦ λ e. refl
-    ]
+-- the kept wakes are those of the timeline
+same_due : (s : ℕ → Settings) (base : Base) (count limit : ℕ) (ls : List Lane) (told : List BinLine) (tl : Timeline) (o : Option Wake) → length ls ≡ count → LanesRest s base (length ls) ls told tl → due limit (first_wake (wakes_in ls) (length ls)) ≡ o → due limit (first_wake (wake s tl) count) ≡ o
+same_due s base count limit ls told tl o long h e =
+    subst (λ (n : ℕ). due limit (first_wake (wake s tl) n) ≡ o) long
+    (ap (due limit) (first_same (wake s tl) (wakes_in ls) (length ls) (λ k lt. sym (h.wakes_are k lt))) ∙ e)
 
-some_due : (limit t : ℕ) (o : Option ℕ) → due_time limit o ≡ Some t → due limit (with_wake None 0 o) ≡ Some (wake_at t)
-some_due limit t None = λ e. cc
-some_due limit t (Some u) =
-    elim (nat_le u limit) as (λ b. (if b then Some u else None) ≡ Some t → (if b then Some (wake_at u) else None) ≡ Some (wake_at t)) [
-      | true ↦ λ e. ap (λ (n : ℕ). Some (wake_at n)) (some_same u t e)
-      | false ↦ λ e. cc
-    ]
-  where
-    some_same : (v w : ℕ) → Some v ≡ Some w → v ≡ w
-    some_same v w e = cc
-
--- a timeline on the way, which is served to the same
-pub record Serving (s : Settings) (base : Base) (limit : ℕ) (l : Lane) (last : ℕ) (told : List BinLine) (tl : Timeline) : Type 0 where
-  pub now : Timeline
-  pub at : LaneServed s base 0 l last told now
-  pub same : served s 1 limit now ≡ served s 1 limit tl
-
-pub begins : (s : Settings) (base : Base) (limit : ℕ) (l : Lane) (last : ℕ) (told : List BinLine) (tl : Timeline) → LaneRests s base 0 l told tl → last ≡ latest tl → Serving s base limit l last told tl
-begins s base limit l last told tl h e = record { now = tl; at = record { rests = h; last_is = e }; same = refl }
+pub begins : (s : ℕ → Settings) (base : Base) (limit : ℕ) (ls : List Lane) (last : ℕ) (told : List BinLine) (tl : Timeline) → LanesRest s base (length ls) ls told tl → last ≡ latest tl → LanesOnWay s base (length ls) limit ls last told tl
+begins s base limit ls last told tl h e = record { now = tl; at = record { rest = h; last_is = e }; same = refl }
 
 pub goes_on :
-    (s : Settings) (base : Base) (limit t : ℕ) (old new : Lane) (last : ℕ) (told more : List BinLine) (tl : Timeline)
-    → ((now : Timeline) → due limit (first_wake (wake s now) 1) ≡ Some (wake_at t) → served s 1 limit now ≡ served s 1 limit (ticked s t 0 now))
-    → ((now : Timeline) → latest (ticked s t 0 now) ≡ max t (latest now))
-    → Serving s base limit old last told tl
-    → due_time limit old.wake ≡ Some t
-    → ((now : Timeline) → LaneTells s base 0 old told now → LaneRests s base 0 new more (ticked s t 0 now))
-    → Serving s base limit new (max t last) more tl
-goes_on s base limit t old new last told more tl step later g e keeps =
-    let found : due limit (first_wake (wake s g.now) 1) ≡ Some (wake_at t) = some_due limit t (wake s g.now 0) (ap (due_time limit) (sym g.at.rests.wake_is) ∙ e) in
+    (s : ℕ → Settings) (base : Base) (count limit : ℕ) (w : Wake) (ls : List Lane) (was new : Lane) (last : ℕ) (told more : List BinLine) (tl : Timeline)
+    → ((now : Timeline) → due limit (first_wake (wake s now) count) ≡ Some w → served s count limit now ≡ served s count limit (ticked s w.time w.lane now))
+    → ((now : Timeline) → latest (ticked s w.time w.lane now) ≡ max w.time (latest now))
+    → length ls ≡ count
+    → LanesOnWay s base count limit ls last told tl
+    → due limit (first_wake (wakes_in ls) (length ls)) ≡ Some w
+    → w.lane < length ls → was ≡ get_or ls w.lane was
+    → ((now : Timeline) → LaneTells s (around base ls w.lane now) w.lane was told now → LaneRests s (around base ls w.lane now) w.lane new more (ticked s w.time w.lane now))
+    → LanesOnWay s base count limit (set ls w.lane new) (max w.time last) more tl
+goes_on s base count limit w ls was new last told more tl step later long g e below is keeps =
+    let found : due limit (first_wake (wake s g.now) count) ≡ Some w = same_due s base count limit ls told g.now (Some w) long g.at.rest e in
+    let same_long : length (set ls w.lane new) ≡ length ls = length-set ls w.lane new in
     record {
-      now = ticked s t 0 g.now;
-      at = record { rests = keeps g.now g.at.rests.tells; last_is = ap (max t) g.at.last_is ∙ sym (later g.now) };
+      now = ticked s w.time w.lane g.now;
+      at =
+          record {
+            rest = all_rest s base (length ls) (length (set ls w.lane new)) ls w.lane new told more g.now (ticked s w.time w.lane g.now) below (λ k lt ne. omega arith) g.at.rest.tells g.at.rest.wakes_are
+                (keeps g.now (one_tells s base ls w.lane was told g.now below is g.at.rest.tells));
+            last_is = ap (max w.time) g.at.last_is ∙ sym (later g.now);
+          };
       same = sym (step g.now found) ∙ g.same;
     }
 
 pub ends :
-    (s : Settings) (base : Base) (limit : ℕ) (l : Lane) (last : ℕ) (told : List BinLine) (tl : Timeline)
-    → ((now : Timeline) → due limit (first_wake (wake s now) 1) ≡ None → served s 1 limit now ≡ now)
-    → Serving s base limit l last told tl
-    → due_time limit l.wake ≡ None
-    → LaneServed s base 0 l last told (served s 1 limit tl)
-ends s base limit l last told tl stop g e =
-    let found : due limit (first_wake (wake s g.now) 1) ≡ None = none_due limit (wake s g.now 0) (ap (due_time limit) (sym g.at.rests.wake_is) ∙ e) in
-    subst (LaneServed s base 0 l last told) (sym (stop g.now found) ∙ g.same) g.at
+    (s : ℕ → Settings) (base : Base) (count limit : ℕ) (ls : List Lane) (last : ℕ) (told : List BinLine) (tl : Timeline)
+    → ((now : Timeline) → due limit (first_wake (wake s now) count) ≡ None → served s count limit now ≡ now)
+    → length ls ≡ count
+    → LanesOnWay s base count limit ls last told tl
+    → due limit (first_wake (wakes_in ls) (length ls)) ≡ None
+    → LanesServed s base ls last told (served s count limit tl)
+ends s base count limit ls last told tl stop long g e =
+    subst (LanesServed s base ls last told) (sym (stop g.now (same_due s base count limit ls told g.now None long g.at.rest e)) ∙ g.same) g.at
 
-pub falls : (limit t : ℕ) (old new : Option ℕ) → due_time limit old ≡ Some t → IsLater t new → room limit new < room limit old
-falls limit t None new = λ e. cc
-falls limit t (Some u) new =
-    elim (nat_le u limit) as (λ b. nat_le u limit ≡ b → (if b then Some u else None) ≡ Some t → IsLater t new → room limit new < room limit (Some u)) [
-      | true ↦ λ b e later. let le : u ≤ limit = grind (arith, common_steps) in less u (some_same u t e) new le later
-      | false ↦ λ b e. cc
-    ] refl
-  where
-    some_same : (v w : ℕ) → Some v ≡ Some w → v ≡ w
-    some_same v w e = cc
+-- one wake less is left
+pub falls :
+    (limit : ℕ) (w : Wake) (ls : List Lane) (new : Lane)
+    → ((old new : ℕ → Option ℕ) (count limit : ℕ) (w : Wake) → due limit (first_wake old count) ≡ Some w → IsLater w.time (new w.lane) → ((k : ℕ) → k ≢ w.lane → new k ≡ old k) → rooms limit new count < rooms limit old count)
+    → due limit (first_wake (wakes_in ls) (length ls)) ≡ Some w
+    → w.lane < length ls
+    → IsLater w.time new.wake
+    → wakes_left limit (set ls w.lane new) < wakes_left limit ls
+falls limit w ls new law e below later =
+    subst (λ (n : ℕ). rooms limit (wakes_in (set ls w.lane new)) n < rooms limit (wakes_in ls) (length ls)) (sym (length-set ls w.lane new))
+    (law (wakes_in ls) (wakes_in (set ls w.lane new)) (length ls) limit w e (subst (IsLater w.time) (sym (wakes_same ls w.lane new below)) later) (λ k ne. wakes_other ls w.lane k new ne))
 
-    less : (u : ℕ) → u ≡ t → (new : Option ℕ) → u ≤ limit → IsLater t new → room limit new < room limit (Some u)
-    less u e None le later = omega arith
-    less u e (Some w) le later = omega arith
+-- the search goes over the lanes through a view of them
+pub due_at : (limit : ℕ) (ls view : List Lane) (r o : Option Wake) → view ≡ ls → r ≡ due limit (first_wake (wakes_in view) (length view)) → r ≡ o → due limit (first_wake (wakes_in ls) (length ls)) ≡ o
+due_at limit ls view r o same is e = ap (λ (xs : List Lane). due limit (first_wake (wakes_in xs) (length xs))) (sym same) ∙ sym is ∙ e
+
+pub not_true : false ≡ true → ⊥
+not_true e = cc
+
+pub not_false : true ≡ false → ⊥
+not_false e = cc
+
+-- lanes on the way, by the count of lanes that there were at the begin
+pub stays_on : (s : ℕ → Settings) (base : Base) (count limit : ℕ) (old new : List Lane) (time last : ℕ) (before after : List BinLine) (tl : Timeline) → length old ≡ count → StayOnWay limit old new time last before after → LanesOnWay s base count limit old time before tl → LanesOnWay s base count limit new last after tl
+stays_on s base count limit old new time last before after tl e stays g =
+    subst (λ (n : ℕ). LanesOnWay s base n limit new last after tl) e (stays s base tl (subst (λ (n : ℕ). LanesOnWay s base n limit old time before tl) (sym e) g))
+
+pub is_served : (s : ℕ → Settings) (base : Base) (count limit : ℕ) (old new : List Lane) (time last : ℕ) (before after : List BinLine) (tl : Timeline) → length old ≡ count → AreServed limit old new time last before after → LanesOnWay s base count limit old time before tl → LanesServed s base new last after (served s count limit tl)
+is_served s base count limit old new time last before after tl e serves g =
+    subst (λ (n : ℕ). LanesServed s base new last after (served s n limit tl)) e (serves s base tl (subst (λ (n : ℕ). LanesOnWay s base n limit old time before tl) (sym e) g))

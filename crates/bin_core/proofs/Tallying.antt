@@ -11,7 +11,7 @@ use Rattle.jitter_model.specs.declared.Verdict.TheVariants as verdict
 use Rattle.timeline.specs.declared.line.BinLine.{BinLine}
 use Rattle.timeline.specs.declared.line.BinLine.TheVariants as told
 use Rattle.log_model.specs.Events.{turn_lines, dropped_lines, verdict_lines, out_in, lost_in, refused_in}
-use Rattle.bin_core.specs.declared.counted.Counts.{Counts}
+use Rattle.bin_core.specs.declared.counts.Counts.{Counts}
 use Rattle.bin_core.specs.Totals.{turn_out, turn_lost, refusal, with_turn, with_push}
 use Rattle.bin_core.specs.Lanes.{Base, Adds, Tallies}
 
@@ -61,25 +61,25 @@ both_sums xs ys refused a b =
       refused_is = omega (arith, sum_by-append refused_in xs ys, a.refused_is, b.refused_is);
     }
 
-tallies_more : (old new : Counts) (xs ys : List BinLine) (out lost refused : ℕ) → Tallies old xs → Sums ys out lost refused → new.out ≡ old.out + out → new.lost ≡ old.lost + lost → new.refused ≡ old.refused + refused → Tallies new (xs ++ ys)
-tallies_more old new xs ys out lost refused k s a b c =
+tallies_more : (others old new : Counts) (xs ys : List BinLine) (out lost refused : ℕ) → Tallies others old xs → Sums ys out lost refused → new.out ≡ old.out + out → new.lost ≡ old.lost + lost → new.refused ≡ old.refused + refused → Tallies others new (xs ++ ys)
+tallies_more others old new xs ys out lost refused k s a b c =
     record {
       out = omega (arith, sum_by-append out_in xs ys, s.out_is, k.out);
       lost = omega (arith, sum_by-append lost_in xs ys, s.lost_is, k.lost);
       refused = omega (arith, sum_by-append refused_in xs ys, s.refused_is, k.refused);
     }
 
-pub turn_tallied : (old new : Counts) (xs : List BinLine) (t n : ℕ) (r : Turn) → Tallies old xs → new ≡ with_turn old r → Tallies new (xs ++ turn_lines t n r)
-turn_tallied old new xs t n r k e =
-    subst (λ (c : Counts). Tallies c (xs ++ turn_lines t n r)) (sym e)
-    (tallies_more old (with_turn old r) xs (turn_lines t n r) (turn_out r) (turn_lost r) 0 k (turn_sums t n r) refl refl (omega arith))
+pub turn_tallied : (others old new : Counts) (xs : List BinLine) (t n : ℕ) (r : Turn) → Tallies others old xs → new ≡ with_turn old r → Tallies others new (xs ++ turn_lines t n r)
+turn_tallied others old new xs t n r k e =
+    subst (λ (c : Counts). Tallies others c (xs ++ turn_lines t n r)) (sym e)
+    (tallies_more others old (with_turn old r) xs (turn_lines t n r) (turn_out r) (turn_lost r) 0 k (turn_sums t n r) refl refl (omega arith))
 
-pub push_tallied : (old new : Counts) (xs : List BinLine) (t n dropped seq : ℕ) (kind : Origin) (v : Verdict) → Tallies old xs → new ≡ with_push old v → Tallies new (xs ++ (dropped_lines t n dropped ++ verdict_lines t n seq kind v))
-push_tallied old new xs t n dropped seq kind v k e =
-    subst (λ (c : Counts). Tallies c (xs ++ (dropped_lines t n dropped ++ verdict_lines t n seq kind v))) (sym e)
-    (tallies_more old (with_push old v) xs (dropped_lines t n dropped ++ verdict_lines t n seq kind v) 0 0 (refusal v) k
+pub push_tallied : (others old new : Counts) (xs : List BinLine) (t n dropped seq : ℕ) (kind : Origin) (v : Verdict) → Tallies others old xs → new ≡ with_push old v → Tallies others new (xs ++ (dropped_lines t n dropped ++ verdict_lines t n seq kind v))
+push_tallied others old new xs t n dropped seq kind v k e =
+    subst (λ (c : Counts). Tallies others c (xs ++ (dropped_lines t n dropped ++ verdict_lines t n seq kind v))) (sym e)
+    (tallies_more others old (with_push old v) xs (dropped_lines t n dropped ++ verdict_lines t n seq kind v) 0 0 (refusal v) k
     (both_sums (dropped_lines t n dropped) (verdict_lines t n seq kind v) (refusal v) (dropped_sums_by (dropped == 0) t n dropped) (verdict_sums t n seq kind v)) (omega arith) (omega arith) refl)
 
 -- lines that count nothing
-pub none_tallied : (c : Counts) (xs ys : List BinLine) → Tallies c xs → Sums ys 0 0 0 → Tallies c (xs ++ ys)
-none_tallied c xs ys k s = tallies_more c c xs ys 0 0 0 k s (omega arith) (omega arith) (omega arith)
+pub none_tallied : (others c : Counts) (xs ys : List BinLine) → Tallies others c xs → Sums ys 0 0 0 → Tallies others c (xs ++ ys)
+none_tallied others c xs ys k s = tallies_more others c c xs ys 0 0 0 k s (omega arith) (omega arith) (omega arith)

@@ -19,7 +19,7 @@ use Rattle.jitter_model.specs.Runs.{Run}
 use Rattle.jitter_model.specs.Laws.{IsWindow}
 use Rattle.jitter_core.specs.declared.buffer.Buffer.{Buffer}
 use Rattle.jitter_core.specs.Words.{Stands}
-use Rattle.bin_core.specs.declared.counted.Counts.{Counts}
+use Rattle.bin_core.specs.declared.counts.Counts.{Counts}
 use Rattle.bin_core.specs.Totals.{turn_out, turn_lost, refusal, with_turn, with_push, outs, losses, refusals, CountsOf, IsCounted}
 
 -- how many numbers from the lowest to the greatest are still to be covered
@@ -140,9 +140,12 @@ refused_few (Turned r ∷ h) = refused_few h
 -- ---- what holds of a counted buffer, whatever history it stands for
 
 pub record HasRoom (c : Counts) : Type 0 where
-  pub out : c.out < 2 ^ 64
-  pub lost : c.lost < 2 ^ 64
-  pub refused : c.refused < 2 ^ 64
+  pub out : c.out ≤ 2 ^ 44
+  pub lost : c.lost ≤ 2 ^ 44
+  pub refused : c.refused ≤ 2 ^ 44
+
+pub room_below : (n : ℕ) → n ≤ 2 ^ 44 → n < 2 ^ 64
+room_below n le = omega arith
 
 room_of : CoverLaws → (b : Buffer) (c : Counts) (h : History) → CountsOf b c h → HasRoom c
 room_of laws b c h k =

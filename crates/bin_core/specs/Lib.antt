@@ -1,6 +1,6 @@
-pub mod Stages
 pub mod Words
 pub mod Totals
 pub mod Lanes
+pub mod AllLanes
+pub mod Fit
 pub mod Bins
-pub mod Staging

@@ -8,7 +8,7 @@ use Rattle.jitter_model.specs.declared.Entry.TheVariants.{Push, Turned}
 use Rattle.jitter_model.specs.History.{History}
 use Rattle.jitter_core.specs.declared.buffer.Buffer.{Buffer}
 use Rattle.jitter_core.specs.Words.{Stands}
-use Rattle.bin_core.specs.declared.counted.Counts.{Counts}
+use Rattle.bin_core.specs.declared.counts.Counts.{Counts}
 
 -- packets that a reply gives out
 abbrev pub turn_out : Turn → ℕ

@@ -1,11 +1,7 @@
 //! The bin: records and items in order of time, and wakes between them.
-ghost use Rattle.std.specs.Prelude.{◌≡◌, ◌<◌, ◌≤◌, ◌+◌, ◌^◌, List, [], OnOk};
-ghost use Rattle.log_model.specs.declared.Profile.{Profile as ProfileOf};
-ghost use Rattle.log_model.specs.Captured.{IsItem, IsProfile, pushers_of};
-ghost use Rattle.log_model.specs.Inputs.{Input, OfCapture, OfScript};
-ghost use Rattle.bin_core.specs.Stages.{pushers_in, pushes_in};
+ghost use Rattle.bin_core.specs.Fit.{IsFit};
 
-use crate::stage::{Stage, control, finish, take_record};
+use crate::stage::Stage;
 use log_model::{Item, Profile, Standing};
 use pcap_file::PcapRecord;
 use rtp_units::OutOfMemory;
@@ -15,7 +11,7 @@ use timeline::Lines;
 /// The most records of a capture.
 pub const MAX_RECORDS: u64 = 100_000_000;
 
-/// One session with at most one source: the first that sends a packet of the session.
+/// One session with a lane for each of its sources, at most 64 of them.
 ///
 /// A bin stands for the list of the records and items that it has taken, each at its time, and each call adds
 /// the lines that the log of `log_model` has next. After want of memory it stands for no list: later calls are
@@ -23,18 +19,19 @@ pub const MAX_RECORDS: u64 = 100_000_000;
 #[derive(Drop)]
 pub struct Bin {
     stage: Stage,
-    ghost profile: { IsProfile stage.profile },
-    ghost pushers: { pushers_in stage.profile.session stage.lane ≡ pushers_of stage.profile.session },
-    ghost room: { pushes_in stage.lane ≤ stage.records },
-    ghost latency: { stage.standing.latency ≤ 600000000000 },
+    ghost fit: { IsFit stage.records stage },
 }
 
 impl Bin {
+    ghost use Rattle.std.specs.Prelude.{◌≡◌, ◌<◌, ◌≤◌, ◌+◌, ◌^◌, List, [], OnOk};
+    ghost use Rattle.log_model.specs.declared.Profile.{Profile as ProfileOf};
+    ghost use Rattle.log_model.specs.Captured.{IsItem, IsProfile};
+    ghost use Rattle.log_model.specs.Inputs.{Input, OfCapture, OfScript};
     ghost use Rattle.bin_core.specs.Words.{records_of, time_of};
     ghost use Rattle.bin_core.specs.Bins.{BinStands, TakesOn, Completes, timed};
 
     /// A bin before any record and item.
-    pub fn new(profile: &Profile) -> Bin
+    pub fn new(alloc: Global, profile: &Profile) -> Bin
         requires { IsProfile profile.now }
         ensures records { records_of result ≡ 0 }
         ensures time { time_of result ≡ 0 }
@@ -47,7 +44,7 @@ impl Bin {
                     latency: profile.settings.latency,
                     flushing: false,
                 },
-                lane: None,
+                lanes: Vec::new(alloc),
                 records: 0,
                 time: 0,
             },
@@ -85,27 +82,33 @@ impl Bin {
         requires small { time < 2 ^ 63 }
         ensures records { records_of self.new ≡ n }
         ensures time { time_of self.new ≡ time }
-        ensures stands { OnOk result ((s : ProfileOf) (seen : List Input) → BinStands s self.old seen → TakesOn s seen (OfCapture (timed time link rec.now)) lines.old lines.new self.new) }
+        ensures stands { OnOk result ((s : ProfileOf) (seen : List Input)
+            → BinStands s self.old seen
+            → TakesOn s seen (OfCapture (timed time link rec.now)) lines.old lines.new self.new) }
     {
-        take_record(&mut self.stage, alloc, n, time, link, rec, lines)
+        self.stage.take_record(alloc, n, time, link, rec, lines)
     }
 
-    /// Takes an item of the script: the wakes up to its time are served before it. It comes to the lane, if
-    /// there is one, which takes its turns then. Its lines are added to `lines`.
+    /// Takes an item of the script: the wakes up to its time are served before it. It comes to all lanes, and
+    /// then each takes its turns. Its lines are added to `lines`.
     pub fn control(&mut self, item: &Item, lines: &mut Lines) -> Result<(), OutOfMemory>
         requires item { IsItem item.now }
         requires onward { time_of self.old ≤ item.now.time }
         ensures records { records_of self.new ≡ records_of self.old }
         ensures time { time_of self.new ≡ item.now.time }
-        ensures stands { OnOk result ((s : ProfileOf) (seen : List Input) → BinStands s self.old seen → TakesOn s seen (OfScript item.now) lines.old lines.new self.new) }
+        ensures stands { OnOk result ((s : ProfileOf) (seen : List Input)
+            → BinStands s self.old seen
+            → TakesOn s seen (OfScript item.now) lines.old lines.new self.new) }
     {
-        control(&mut self.stage, item, lines)
+        self.stage.control(item, lines)
     }
 
-    /// Serves the wakes that are left, ends the lane and adds the last line.
+    /// Serves the wakes that are left, ends the lanes and adds the last line.
     pub fn finish(&mut self, lines: &mut Lines) -> Result<(), OutOfMemory>
-        ensures { OnOk result ((s : ProfileOf) (seen : List Input) → BinStands s self.old seen → Completes s seen lines.old lines.new) }
+        ensures { OnOk result ((s : ProfileOf) (seen : List Input)
+            → BinStands s self.old seen
+            → Completes s seen lines.old lines.new) }
     {
-        finish(&mut self.stage, lines)
+        self.stage.finish(lines)
     }
 }

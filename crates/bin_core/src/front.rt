@@ -1,16 +1,18 @@
 //! From a record to a packet for the lane.
-ghost use Rattle.std.specs.Prelude.{◌≡◌, ◌≤◌, length, IfOk};
+ghost use Rattle.std.specs.Prelude.{◌≡◌, ◌≤◌, ◌++◌, length, IfOk, OnOk};
 ghost use Rattle.pcap_file.specs.Datagrams.{sent};
 ghost use Rattle.pcap_file.specs.Reading.{record_view};
-ghost use Rattle.log_model.specs.Front.{heard_of, heard_datagram, heard_packet, is_same};
+ghost use Rattle.log_model.specs.Front.{heard_of, heard_datagram, heard_packet, is_same, routing};
+ghost use Rattle.log_model.specs.Standings.{after_control};
+ghost use Rattle.timeline.specs.declared.line.BinLine.TheVariants.{Skip};
 
 use jitter_core::Packet;
-use log_model::{Heard, Profile, Source};
+use log_model::{Control, Heard, Profile, Source, Standing};
 use pcap_file::{Datagram, PcapRecord, datagram};
 use rtp_units::{Address, Blob, OutOfMemory};
 use rtp_wire::{RtpView, read};
 use std::alloc::Global;
-use timeline::{Word, rtp_word, skip_word};
+use timeline::{BinLine, Lines, Word, rtp_word, skip_word};
 
 /// What this record brings.
 pub fn hear(
@@ -80,4 +82,56 @@ pub fn is_same_source(a: &Source, b: &Source) -> bool
         && a.from.family == b.from.family
         && a.from.ip == b.from.ip
         && a.from.port == b.from.port
+}
+
+/// Adds the line that tells of the payload type, for the first lane.
+pub fn tell_type(
+    profile: &Profile,
+    lane: u8,
+    time: u64,
+    lines: &mut Lines,
+) -> Result<(), OutOfMemory>
+    ensures { OnOk result (lines.new ≡ lines.old ++ routing profile.now time lane) }
+{
+    if lane != 0 {
+        return Ok(());
+    }
+    lines.push(BinLine::Pt {
+        time,
+        session: profile.session,
+        pt: profile.payload_type,
+        rate: profile.settings.rate,
+    })
+}
+
+/// The line of a record that is passed over.
+pub fn skip_line(time: u64, n: u64, reason: Word) -> BinLine
+    ensures { result ≡ Skip time n reason }
+{
+    BinLine::Skip {
+        time,
+        record: n,
+        reason,
+    }
+}
+
+/// How a session stands after this.
+pub fn after(standing: Standing, control: Control) -> Standing
+    ensures { result ≡ after_control control standing }
+{
+    match control {
+        Control::Clock => standing,
+        Control::FlushStart => Standing {
+            flushing: true,
+            ..standing
+        },
+        Control::FlushStop => Standing {
+            flushing: false,
+            ..standing
+        },
+        Control::Latency(latency) => Standing {
+            latency,
+            ..standing
+        },
+    }
 }

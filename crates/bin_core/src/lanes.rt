@@ -1,202 +1,199 @@
-//! The lane of a bin, or none.
-ghost use Rattle.std.specs.Prelude.{ℕ, ◌≡◌, ◌<◌, ◌≤◌, ◌+◌, ◌^◌, Option, Some, None, IfOk, OnOk, true};
-ghost use Rattle.jitter_model.specs.declared.Settings.{Settings as SettingsOf};
-ghost use Rattle.jitter_core.specs.Words.{pushes_of, settings_of};
-ghost use Rattle.log_model.specs.declared.Profile.{Profile as ProfileOf};
-ghost use Rattle.log_model.specs.declared.Source.{Source as SourceOf};
-ghost use Rattle.log_model.specs.Captured.{IsItem, IsProfile, pushers_of};
-ghost use Rattle.log_model.specs.Front.{first_known, opening};
-ghost use Rattle.log_model.specs.Events.{Timeline, latest};
-ghost use Rattle.log_model.specs.Waking.{served, begun, controlled, all_ended};
-ghost use Rattle.log_model.specs.Log.{all_told, with_brought};
-ghost use Rattle.bin_core.specs.Stages.{pushers_in, pushes_in};
-ghost use Rattle.bin_core.specs.Lanes.{Base, LaneTells};
-ghost use Rattle.bin_core.specs.Staging.{TellsNoLane, LanesTell, LanesServed, lanes_of, given, is_of as is_of_lane, done_of};
+//! The lanes of a bin, in the order of first sight.
+ghost use Rattle.std.specs.Prelude.{ℕ, ◌≡◌, ◌<◌, ◌≤◌, ◌+◌, ◌^◌, ◌++◌, ◌∷◌, [], true, false, length, IfOk, OnOk, OnErr};
+ghost use Rattle.log_model.specs.Captured.{IsItem};
+ghost use Rattle.log_model.specs.Front.{place_from};
+ghost use Rattle.log_model.specs.Waking.{due as due_wake, with_wake, first_wake, all_acted, all_ticked, all_ended};
+ghost use Rattle.bin_core.specs.AllLanes.{AllComeToRest, AllGoOn, AreFit, AreServed, SameLanes, Serves, StayOnWay, done_of, sources_in, wakes_in, wakes_left};
 
-use crate::counted::{Counts, Lane};
 use crate::front::is_same_source;
-use crate::lane::{begin, control, end, serve, take};
-use jitter_core::{Buffer, Packet};
-use log_model::{Item, Profile, Source, Standing};
+use crate::lane::Lane;
+use jitter_model::laws::{accepted_in_window, covers_from_next};
+use log_model::laws::{serves_all, time_goes_on, wakes_run_out};
+use log_model::{Item, MAX_LANES, Place, Source, Wake};
 use rtp_units::OutOfMemory;
-use std::alloc::Global;
 use timeline::{BinLine, Lines};
 
-/// Whether the lane is this source's, or there is none yet.
-pub fn is_of(lane: &Option<Lane>, source: &Source) -> bool
-    ensures { result ≡ is_of_lane lane.now source.now }
+/// Where a source stands among those of the lanes.
+pub fn place(lanes: &[Lane], source: &Source) -> Place
+    ensures { result ≡ place_from 0 (sources_in lanes.now) source.now }
 {
-    match lane {
-        None => true,
-        Some(lane) => is_same_source(&lane.source, source),
-    }
-}
-
-/// A packet comes to the lane, which is made for the first one.
-pub fn take_packet(
-    lane: &mut Option<Lane>,
-    profile: &Profile,
-    standing: Standing,
-    alloc: Global,
-    time: u64,
-    source: Source,
-    packet: Packet,
-    lines: &mut Lines,
-) -> Result<(), OutOfMemory>
-    requires profile { IsProfile profile.now }
-    requires pushers { pushers_in profile.now.session lane.old ≡ pushers_of profile.now.session }
-    requires latency { standing.latency ≤ 600000000000 }
-    requires few { pushes_in lane.old < 2 ^ 31 }
-    requires time { time < 2 ^ 63 }
-    ensures pushers { pushers_in profile.now.session lane.new ≡ pushers_of profile.now.session }
-    ensures count { pushes_in lane.new ≤ pushes_in lane.old + 1 }
-    ensures stands { OnOk result ((s : ProfileOf) (base : Base) (kept : Option SourceOf) (tl : Timeline) → profile.now ≡ s → LanesTell s.settings base lane.old kept lines.old tl → LanesTell s.settings base lane.new (first_known kept (Some source)) lines.new (with_brought s standing time (given s time kept source packet) tl)) }
-{
-    match lane {
-        Some(lane) => take(lane, profile.session, time, packet, lines),
-        None => {
-            let mut made = make_lane(profile, standing, alloc, time, source, lines)?;
-            take(&mut made, profile.session, time, packet, lines)?;
-            *lane = Some(made);
-            Ok(())
+    for number in 0..lanes.len() {
+        let lane = &lanes[number];
+        if is_same_source(&lane.source, source) {
+            return Place::Lane(number);
+        }
+        if lane.source.ssrc == source.ssrc {
+            return Place::Nowhere;
         }
     }
+    if lanes.len() < MAX_LANES {
+        Place::New
+    } else {
+        Place::Nowhere
+    }
 }
 
-// The lane of a source, with the lines that tell of it, as it begins.
-fn make_lane(
-    profile: &Profile,
-    standing: Standing,
-    alloc: Global,
-    time: u64,
-    source: Source,
-    lines: &mut Lines,
-) -> Result<Lane, OutOfMemory>
-    requires profile { IsProfile profile.now }
-    requires latency { standing.latency ≤ 600000000000 }
-    ensures fresh { IfOk result (λ lane. pushes_of lane.buffer ≡ 0) }
-    ensures pushers { IfOk result (λ lane. (settings_of lane.buffer).pushers ≡ pushers_of profile.now.session) }
-    ensures source { IfOk result (λ lane. lane.source ≡ source) }
-    ensures stands { IfOk result (λ lane. (s : ProfileOf) (base : Base) (tl : Timeline) → profile.now ≡ s → TellsNoLane base None lines.old tl → LaneTells s.settings base 0 lane lines.new (begun true standing time (all_told time (opening s time None source) tl))) }
+/// Adds a lane behind the others.
+pub fn add(lanes: &mut Vec<Lane>, lane: Lane) -> Result<(), OutOfMemory>
+    ensures ok { OnOk result (lanes.new.items ≡ lanes.old.items ++ lane ∷ []) }
+    ensures err { OnErr result (lanes.new.items ≡ lanes.old.items) }
 {
-    let mut lane = open_lane(profile, alloc, time, source, lines)?;
-    begin(&mut lane, standing, time, lines)?;
-    Ok(lane)
+    match lanes.push(lane) {
+        Ok(()) => Ok(()),
+        Err(_) => Err(OutOfMemory),
+    }
 }
 
-// The lane of a source, with the lines that tell of it.
-fn open_lane(
-    profile: &Profile,
-    alloc: Global,
-    time: u64,
-    source: Source,
-    lines: &mut Lines,
-) -> Result<Lane, OutOfMemory>
-    requires profile { IsProfile profile.now }
-    ensures fresh { IfOk result (λ lane. pushes_of lane.buffer ≡ 0) }
-    ensures pushers { IfOk result (λ lane. (settings_of lane.buffer).pushers ≡ pushers_of profile.now.session) }
-    ensures source { IfOk result (λ lane. lane.source ≡ source) }
-    ensures stands { IfOk result (λ lane. (s : ProfileOf) (base : Base) (tl : Timeline) → profile.now ≡ s → TellsNoLane base None lines.old tl → LaneTells s.settings base 0 lane lines.new (all_told time (opening s time None source) tl)) }
+// The earlier wake; the first of two at one time.
+fn earlier(first: Option<Wake>, lane: usize, wake: Option<u64>) -> Option<Wake>
+    ensures { result ≡ with_wake first lane wake }
 {
-    lines.push(BinLine::Pt {
-        time,
-        session: profile.session,
-        pt: profile.payload_type,
-        rate: profile.settings.rate,
-    })?;
-    lines.push(BinLine::Lane {
-        time,
-        lane: 0,
-        session: profile.session,
-        ssrc: source.ssrc,
-    })?;
-    let buffer = Buffer::new(alloc, &profile.settings)?;
-    Ok(Lane {
-        number: 0,
-        source,
-        buffer,
-        wake: None,
-        counts: Counts {
-            out: 0,
-            lost: 0,
-            refused: 0,
-        },
-    })
+    match (first, wake) {
+        (first, None) => first,
+        (Some(first), Some(time)) if first.time <= time => Some(first),
+        (_, Some(time)) => Some(Wake { time, lane }),
+    }
 }
 
-/// Serves the lane's wakes up to a time, and answers the last one, or `before` where there is none that is
-/// later.
-pub fn serve_wakes(
-    lane: &mut Option<Lane>,
+// The first wake of the lanes.
+fn first(lanes: &[Lane]) -> Option<Wake>
+    ensures { result ≡ first_wake (wakes_in lanes.now) (length lanes.now) }
+{
+    let mut found = None;
+    for i in 0..lanes.len() {
+        found = earlier(found, i, lanes[i].wake);
+    }
+    found
+}
+
+// The first wake, where it is not later than a time.
+fn due(lanes: &[Lane], limit: u64) -> Option<Wake>
+    ensures { result ≡ due_wake limit (first_wake (wakes_in lanes.now) (length lanes.now)) }
+{
+    match first(lanes) {
+        Some(wake) if wake.time <= limit => Some(wake),
+        _ => None,
+    }
+}
+
+/// Serves the wakes up to a time, and answers the last one, or `before` where there is none that is later.
+pub fn serve(
+    lanes: &mut Vec<Lane>,
     limit: u64,
     before: u64,
     lines: &mut Lines,
 ) -> Result<u64, OutOfMemory>
     requires limit { limit < 2 ^ 63 + 2 ^ 50 }
-    ensures pushers { (session : ℕ) → pushers_in session lane.new ≡ pushers_in session lane.old }
-    ensures count { pushes_in lane.new ≡ pushes_in lane.old }
-    ensures stands { IfOk result (λ last. (s : SettingsOf) (base : Base) (kept : Option SourceOf) (tl : Timeline) → LanesTell s base lane.old kept lines.old tl → before ≡ latest tl → LanesServed s base lane.new kept last lines.new (served s (lanes_of kept) limit tl)) }
+    ensures stays { SameLanes lanes.old.items lanes.new.items }
+    ensures stands { IfOk result
+        (λ last. Serves limit lanes.old.items lanes.new.items before last lines.old lines.new) }
 {
-    match lane {
-        Some(lane) => serve(lane, limit, before, lines),
-        None => Ok(before),
+    let mut last = before;
+    'wakes: loop {
+        if !serve_one(lanes, limit, &mut last, lines)? {
+            return Ok(last);
+        }
     }
 }
 
-/// An item comes to the lane, if there is one.
-pub fn control_lane(
-    lane: &mut Option<Lane>,
-    item: &Item,
+/// Serves the first wake up to a time, and keeps the last time in `last`. Answers whether there was one: where there
+/// was none, all wakes up to that time were served.
+pub fn serve_one(
+    lanes: &mut Vec<Lane>,
+    limit: u64,
+    last: &mut u64,
     lines: &mut Lines,
-) -> Result<(), OutOfMemory>
-    requires { IsItem item.now }
-    ensures pushers { (session : ℕ) → pushers_in session lane.new ≡ pushers_in session lane.old }
-    ensures count { pushes_in lane.new ≡ pushes_in lane.old }
-    ensures stands { OnOk result ((s : SettingsOf) (base : Base) (kept : Option SourceOf) (tl : Timeline) → LanesTell s base lane.old kept lines.old tl → LanesTell s base lane.new kept lines.new (controlled s (lanes_of kept) item.now tl)) }
+) -> Result<bool, OutOfMemory>
+    requires limit { limit < 2 ^ 63 + 2 ^ 50 }
+    ensures stays { SameLanes lanes.old.items lanes.new.items }
+    ensures fewer { IfOk result (λ more. more ≡ true
+        → wakes_left limit lanes.new.items < wakes_left limit lanes.old.items) }
+    ensures more { IfOk result (λ more. more ≡ true
+        → StayOnWay limit lanes.old.items lanes.new.items last.old last.new lines.old lines.new) }
+    ensures done { IfOk result (λ more. more ≡ false
+        → AreServed limit lanes.old.items lanes.new.items last.old last.new lines.old lines.new) }
 {
-    match lane {
-        Some(lane) => control(lane, item, lines),
-        None => Ok(()),
+    // Laws for the proof; the calls do nothing.
+    serves_all();
+    time_goes_on();
+    wakes_run_out();
+    match due(lanes, limit) {
+        None => Ok(false),
+        Some(wake) => {
+            lanes[wake.lane].tick(wake.time, lines)?;
+            *last = wake.time.max(*last);
+            Ok(true)
+        }
     }
 }
 
-/// Ends the lane, if there is one.
-pub fn end_lane(
-    lane: &mut Option<Lane>,
+/// An item comes to all lanes.
+pub fn control_all(lanes: &mut Vec<Lane>, item: &Item, lines: &mut Lines) -> Result<(), OutOfMemory>
+    requires { IsItem item.now }
+    ensures stays { SameLanes lanes.old.items lanes.new.items }
+    ensures stands { OnOk result (AllGoOn lanes.old.items lanes.new.items lines.old lines.new
+        (λ s n. all_acted item.now.time n item.now.control)) }
+{
+    for i in 0..lanes.len() {
+        lanes[i].control(item, lines)?;
+    }
+    Ok(())
+}
+
+/// The clocks of all lanes come to a time, and they take their turns.
+pub fn tick_all(lanes: &mut Vec<Lane>, time: u64, lines: &mut Lines) -> Result<(), OutOfMemory>
+    requires { time < 2 ^ 63 + 2 ^ 50 }
+    ensures stays { SameLanes lanes.old.items lanes.new.items }
+    ensures stands { OnOk result (AllComeToRest lanes.old.items lanes.new.items lines.old lines.new
+        (λ s n. all_ticked s time n)) }
+{
+    for i in 0..lanes.len() {
+        lanes[i].tick(time, lines)?;
+    }
+    Ok(())
+}
+
+/// All lanes end.
+pub fn end_all(
+    lanes: &mut Vec<Lane>,
     session: u8,
     time: u64,
     lines: &mut Lines,
 ) -> Result<(), OutOfMemory>
     requires session { session < 8 }
-    requires pushers { pushers_in session lane.old ≡ pushers_of session }
-    ensures pushers { pushers_in session lane.new ≡ pushers_in session lane.old }
-    ensures count { pushes_in lane.new ≡ pushes_in lane.old }
-    ensures stands { OnOk result ((s : SettingsOf) (base : Base) (kept : Option SourceOf) (tl : Timeline) → LanesTell s base lane.old kept lines.old tl → LanesTell s base lane.new kept lines.new (all_ended s session time (lanes_of kept) tl)) }
+    requires fit { (most : ℕ) × AreFit session most lanes.old.items }
+    ensures stays { SameLanes lanes.old.items lanes.new.items }
+    ensures stands { OnOk result (AllGoOn lanes.old.items lanes.new.items lines.old lines.new
+        (λ s n. all_ended s session time n)) }
 {
-    match lane {
-        Some(lane) => end(lane, session, time, lines),
-        None => Ok(()),
+    for i in 0..lanes.len() {
+        lanes[i].end(session, time, lines)?;
     }
+    Ok(())
 }
 
 /// The last line.
-pub fn done_line(lane: &Option<Lane>, records: u64) -> BinLine
-    ensures { result ≡ done_of lane.now records }
+pub fn done_line(lanes: &[Lane], records: u64) -> BinLine
+    requires { length lanes.now ≤ 64 }
+    ensures { result ≡ done_of lanes.now records }
 {
-    match lane {
-        None => BinLine::Done {
-            records,
-            lanes: 0,
-            out: 0,
-            lost: 0,
-            refused: 0,
-        },
-        Some(lane) => BinLine::Done {
-            records,
-            lanes: 1,
-            out: lane.counts.out,
-            lost: lane.counts.lost,
-            refused: lane.counts.refused,
-        },
+    // Laws for the proof; the calls do nothing.
+    accepted_in_window();
+    covers_from_next();
+    let mut out = 0;
+    let mut lost = 0;
+    let mut refused = 0;
+    for i in 0..lanes.len() {
+        let counts = lanes[i].counts;
+        out += counts.out;
+        lost += counts.lost;
+        refused += counts.refused;
+    }
+    BinLine::Done {
+        records,
+        lanes: lanes.len() as u64,
+        out,
+        lost,
+        refused,
     }
 }

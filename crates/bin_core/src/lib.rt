@@ -3,8 +3,8 @@
 #![tactic(auto)]
 
 mod bin;
-mod counted;
 mod counting;
+mod counts;
 mod front;
 mod lane;
 mod lanes;

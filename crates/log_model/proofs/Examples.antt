@@ -120,11 +120,24 @@ no_lane_yet : log usual (all_inputs (at 0 FlushStart ∷ at 5 FlushStop ∷ []) 
 unfolding pushers_of pusher_count number_at udp ipv4 by_type untagged ethernet frame datagram_of first_fault
 no_lane_yet = refl
 
--- records that bring no packet of the first source: reports, another port, the program's own source, another source, no RTP
-no_packets : log usual (all_inputs ([]) (at_times (sent 0 5005 (rtp 7 1 0) ∷ sent 0 5006 (rtp 7 1 0) ∷ sent 0 5004 (rtp 1 1 0) ∷ packet 0 1 0 ∷ sent 0 5004 (rtp 8 1 0) ∷ sent 0 5004 (0 ∷ rtp 7 1 0) ∷ [])))
-    ≡ told.Skip 0 1 word.Unbuilt ∷ told.Skip 0 2 word.Port ∷ told.Skip 0 3 word.Unbuilt ∷ head (told.Skip 0 5 word.Unbuilt ∷ told.Bad 0 0 word.Version ∷ out (ms 100) 1 65537 0 0 ∷ told.End (ms 100) 0 ∷ told.Done 6 1 1 0 0 ∷ [])
+-- records that bring no packet of the session: reports, another port, the program's own source, no RTP
+no_packets : log usual (all_inputs ([]) (at_times (sent 0 5005 (rtp 7 1 0) ∷ sent 0 5006 (rtp 7 1 0) ∷ sent 0 5004 (rtp 1 1 0) ∷ packet 0 1 0 ∷ sent 0 5004 (0 ∷ rtp 7 1 0) ∷ [])))
+    ≡ told.Skip 0 1 word.Unbuilt ∷ told.Skip 0 2 word.Port ∷ told.Skip 0 3 word.Unbuilt ∷ head (told.Bad 0 0 word.Version ∷ out (ms 100) 1 65537 0 0 ∷ told.End (ms 100) 0 ∷ told.Done 5 1 1 0 0 ∷ [])
 unfolding pushers_of pusher_count number_at udp ipv4 by_type untagged ethernet frame datagram_of first_fault
 no_packets = refl
+
+-- a second source has the next lane, with wakes of its own. Of two wakes at one time the first lane's is served first
+a_second_source : log usual (all_inputs ([]) (at_times (packet 0 1 0 ∷ sent (ms 10) 5004 (rtp 8 5 0) ∷ packet (ms 10) 2 900 ∷ [])))
+    ≡ head (told.Lane (ms 10) 1 0 8 ∷ out (ms 100) 1 65537 0 0 ∷ out (ms 100) 2 65538 (ms 10) 900
+    ∷ told.Out (ms 110) 1 65541 (ms 10) 96 false 4 (rtp 8 5 0) ∷ told.End (ms 110) 0 ∷ told.End (ms 110) 1 ∷ told.Done 3 2 3 0 0 ∷ [])
+unfolding pushers_of pusher_count number_at udp ipv4 by_type untagged ethernet frame datagram_of first_fault
+a_second_source = refl
+
+-- an item comes to all lanes before one of them takes its turns
+a_flush_of_two : log usual (all_inputs (at 50 FlushStart ∷ []) (at_times (packet 0 1 0 ∷ sent (ms 10) 5004 (rtp 8 5 0) ∷ [])))
+    ≡ head (told.Lane (ms 10) 1 0 8 ∷ told.Flush (ms 50) 0 1 ∷ told.Flush (ms 50) 1 1 ∷ told.Done 2 2 0 0 0 ∷ [])
+unfolding pushers_of pusher_count number_at udp ipv4 by_type untagged ethernet frame datagram_of first_fault
+a_flush_of_two = refl
 
 -- a stamp that goes back comes at the greatest time so far
 a_stamp_that_goes_back : log usual (all_inputs ([]) (at_times (packet (ms 10) 1 0 ∷ packet (ms 40) 2 1800 ∷ packet (ms 20) 2 1800 ∷ [])))

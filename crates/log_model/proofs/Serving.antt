@@ -10,7 +10,8 @@ use Rattle.jitter_model.specs.Laws.{IsLater, IsBelow}
 use Rattle.jitter_model.specs.Runs.{Run}
 use Rattle.log_model.specs.declared.TheConstants.{END_OF_TIME}
 use Rattle.log_model.specs.Events.{Timeline, lane, latest}
-use Rattle.log_model.specs.Waking.{Wake, ticked, wake, with_wake, first_wake, due, room, rooms, serve, serve_due, served}
+use Rattle.log_model.specs.declared.Wake.{Wake}
+use Rattle.log_model.specs.Waking.{ticked, wake, with_wake, first_wake, due, room, rooms, serve, serve_due, served}
 use Rattle.log_model.proofs.Lanes.{by_cases}
 use Rattle.log_model.proofs.Turning.{WakesLater, ticked_later, ticked_other, ticked_latest, entered_run}
 
@@ -85,20 +86,20 @@ rooms_fall limit t old new (suc k) l lt le is later same =
         omega arith
 
 -- the next wake that is due
-abbrev pub next_due : Settings → ℕ → ℕ → Timeline → Option Wake
+abbrev pub next_due : (ℕ → Settings) → ℕ → ℕ → Timeline → Option Wake
 next_due s count limit tl = due limit (first_wake (wake s tl) count)
 
-served_falls : WakesLater → (s : Settings) (count limit : ℕ) (tl : Timeline) (w : Wake) → next_due s count limit tl ≡ Some w → rooms limit (wake s (ticked s w.time w.lane tl)) count < rooms limit (wake s tl) count
+served_falls : WakesLater → (s : ℕ → Settings) (count limit : ℕ) (tl : Timeline) (w : Wake) → next_due s count limit tl ≡ Some w → rooms limit (wake s (ticked s w.time w.lane tl)) count < rooms limit (wake s tl) count
 served_falls rising s count limit tl w e =
     let d : IsDue (wake s tl) count limit w = due_is (wake s tl) count limit w e in
     rooms_fall limit w.time (wake s tl) (wake s (ticked s w.time w.lane tl)) count w.lane d.below d.le d.is (ticked_later rising s w.time w.lane tl)
-    (λ k ne. ap (λ (h : History). wake_of (turn s h)) (ticked_other s w.time w.lane k tl (λ e. ne (sym e))))
+    (λ k ne. ap (λ (h : History). wake_of (turn (s k) h)) (ticked_other s w.time w.lane k tl (λ e. ne (sym e))))
 
-pub serve_none : (n : ℕ) (s : Settings) (count limit : ℕ) (tl : Timeline) → next_due s count limit tl ≡ None → serve n s count limit tl ≡ tl
+pub serve_none : (n : ℕ) (s : ℕ → Settings) (count limit : ℕ) (tl : Timeline) → next_due s count limit tl ≡ None → serve n s count limit tl ≡ tl
 serve_none zero s count limit tl e = refl
 serve_none (suc n) s count limit tl e = ap (λ (o : Option Wake). serve_due (serve n s count limit) s o tl) e
 
-pub serve_some : (n : ℕ) (s : Settings) (count limit : ℕ) (tl : Timeline) (w : Wake) → next_due s count limit tl ≡ Some w → serve (suc n) s count limit tl ≡ serve n s count limit (ticked s w.time w.lane tl)
+pub serve_some : (n : ℕ) (s : ℕ → Settings) (count limit : ℕ) (tl : Timeline) (w : Wake) → next_due s count limit tl ≡ Some w → serve (suc n) s count limit tl ≡ serve n s count limit (ticked s w.time w.lane tl)
 serve_some n s count limit tl w e = ap (λ (o : Option Wake). serve_due (serve n s count limit) s o tl) e
 
 -- cases on an option that keep the equation
@@ -106,12 +107,12 @@ pub by_option : {A : Type 0} {P : Type 0} (o : Option A) → (o ≡ None → P) 
 by_option None f g = f refl
 by_option (Some x) f g = g x refl
 
-no_room : WakesLater → (s : Settings) (count limit : ℕ) (tl : Timeline) → rooms limit (wake s tl) count ≤ 0 → next_due s count limit tl ≡ None
+no_room : WakesLater → (s : ℕ → Settings) (count limit : ℕ) (tl : Timeline) → rooms limit (wake s tl) count ≤ 0 → next_due s count limit tl ≡ None
 no_room rising s count limit tl le =
     by_option (next_due s count limit tl) (λ e. e)
     (λ w e. absurd (let f : rooms limit (wake s (ticked s w.time w.lane tl)) count < rooms limit (wake s tl) count = served_falls rising s count limit tl w e in omega arith))
 
-pub serve_enough : WakesLater → (n m : ℕ) (s : Settings) (count limit : ℕ) (tl : Timeline) → rooms limit (wake s tl) count ≤ n → rooms limit (wake s tl) count ≤ m → serve n s count limit tl ≡ serve m s count limit tl
+pub serve_enough : WakesLater → (n m : ℕ) (s : ℕ → Settings) (count limit : ℕ) (tl : Timeline) → rooms limit (wake s tl) count ≤ n → rooms limit (wake s tl) count ≤ m → serve n s count limit tl ≡ serve m s count limit tl
 serve_enough rising zero m s count limit tl a b = sym (serve_none m s count limit tl (no_room rising s count limit tl a))
 serve_enough rising (suc n) zero s count limit tl a b = serve_none (suc n) s count limit tl (no_room rising s count limit tl b)
 serve_enough rising (suc n) (suc m) s count limit tl a b =
@@ -120,17 +121,17 @@ serve_enough rising (suc n) (suc m) s count limit tl a b =
     (λ w e. let f : rooms limit (wake s (ticked s w.time w.lane tl)) count < rooms limit (wake s tl) count = served_falls rising s count limit tl w e in
     serve_some n s count limit tl w e ∙ serve_enough rising n m s count limit (ticked s w.time w.lane tl) (omega arith) (omega arith) ∙ sym (serve_some m s count limit tl w e))
 
-pub served_none : (s : Settings) (count limit : ℕ) (tl : Timeline) → next_due s count limit tl ≡ None → served s count limit tl ≡ tl
+pub served_none : (s : ℕ → Settings) (count limit : ℕ) (tl : Timeline) → next_due s count limit tl ≡ None → served s count limit tl ≡ tl
 served_none s count limit tl e = serve_none (rooms limit (wake s tl) count) s count limit tl e
 
-pub served_step : WakesLater → (s : Settings) (count limit : ℕ) (tl : Timeline) (w : Wake) → next_due s count limit tl ≡ Some w → served s count limit tl ≡ served s count limit (ticked s w.time w.lane tl)
+pub served_step : WakesLater → (s : ℕ → Settings) (count limit : ℕ) (tl : Timeline) (w : Wake) → next_due s count limit tl ≡ Some w → served s count limit tl ≡ served s count limit (ticked s w.time w.lane tl)
 served_step rising s count limit tl w e =
     let f : rooms limit (wake s (ticked s w.time w.lane tl)) count < rooms limit (wake s tl) count = served_falls rising s count limit tl w e in
     serve_enough rising (rooms limit (wake s tl) count) (suc (rooms limit (wake s tl) count)) s count limit tl (omega arith) (omega arith)
     ∙ serve_some (rooms limit (wake s tl) count) s count limit tl w e
     ∙ serve_enough rising (rooms limit (wake s tl) count) (rooms limit (wake s (ticked s w.time w.lane tl)) count) s count limit (ticked s w.time w.lane tl) (omega arith) (omega arith)
 
-pub serve_ends : WakesLater → (n : ℕ) (s : Settings) (count limit : ℕ) (tl : Timeline) → rooms limit (wake s tl) count ≤ n → next_due s count limit (serve n s count limit tl) ≡ None
+pub serve_ends : WakesLater → (n : ℕ) (s : ℕ → Settings) (count limit : ℕ) (tl : Timeline) → rooms limit (wake s tl) count ≤ n → next_due s count limit (serve n s count limit tl) ≡ None
 serve_ends rising zero s count limit tl a = no_room rising s count limit tl a
 serve_ends rising (suc n) s count limit tl a =
     by_option (next_due s count limit tl)
@@ -138,12 +139,12 @@ serve_ends rising (suc n) s count limit tl a =
     (λ w e. let f : rooms limit (wake s (ticked s w.time w.lane tl)) count < rooms limit (wake s tl) count = served_falls rising s count limit tl w e in
     subst (λ (x : Timeline). next_due s count limit x ≡ None) (sym (serve_some n s count limit tl w e)) (serve_ends rising n s count limit (ticked s w.time w.lane tl) (omega arith)))
 
-pub served_ends : WakesLater → (s : Settings) (count limit : ℕ) (tl : Timeline) → next_due s count limit (served s count limit tl) ≡ None
+pub served_ends : WakesLater → (s : ℕ → Settings) (count limit : ℕ) (tl : Timeline) → next_due s count limit (served s count limit tl) ≡ None
 served_ends rising s count limit tl = serve_ends rising (rooms limit (wake s tl) count) s count limit tl (omega arith)
 
 -- ---- times
 
-serve_latest : (n : ℕ) (s : Settings) (count limit : ℕ) (tl : Timeline) → latest (serve n s count limit tl) ≤ max limit (latest tl)
+serve_latest : (n : ℕ) (s : ℕ → Settings) (count limit : ℕ) (tl : Timeline) → latest (serve n s count limit tl) ≤ max limit (latest tl)
 serve_latest zero s count limit tl = omega arith
 serve_latest (suc n) s count limit tl =
     by_option (next_due s count limit tl)
@@ -155,23 +156,23 @@ serve_latest (suc n) s count limit tl =
     subst (λ (x : Timeline). latest x ≤ max limit (latest tl)) (sym (serve_some n s count limit tl w e)) (omega arith))
 
 -- wakes up to a limit leave no later time than that
-pub served_latest : (s : Settings) (count limit : ℕ) (tl : Timeline) → latest (served s count limit tl) ≤ max limit (latest tl)
+pub served_latest : (s : ℕ → Settings) (count limit : ℕ) (tl : Timeline) → latest (served s count limit tl) ≤ max limit (latest tl)
 served_latest s count limit tl = serve_latest (rooms limit (wake s tl) count) s count limit tl
 
 -- ---- runs
 
-abbrev pub AreRuns : Settings → ℕ → Timeline → Type 0
-AreRuns s count tl = (l : ℕ) → l < count → Run s (lane l tl)
+abbrev pub AreRuns : (ℕ → Settings) → ℕ → Timeline → Type 0
+AreRuns s count tl = (l : ℕ) → l < count → Run (s l) (lane l tl)
 
-pub ticked_runs : (s : Settings) (count t k : ℕ) (tl : Timeline) → t < 2 ^ 63 + 2 ^ 50 → AreRuns s count tl → AreRuns s count (ticked s t k tl)
+pub ticked_runs : (s : ℕ → Settings) (count t k : ℕ) (tl : Timeline) → t < 2 ^ 63 + 2 ^ 50 → AreRuns s count tl → AreRuns s count (ticked s t k tl)
 ticked_runs s count t k tl lt runs l within =
     by_cases (k == l)
     (λ e. let eq : l ≡ k = grind (arith, common_steps) in
-    let run : Run s (lane k tl) = subst (λ (n : ℕ). Run s (lane n tl)) eq (runs l within) in
-    subst (λ (n : ℕ). Run s (lane n (ticked s t k tl))) (sym eq) (entered_run s t k (Clock t) tl (lt, run)))
-    (λ e. let ne : k ≢ l = grind (arith, common_steps) in subst (Run s) (sym (ticked_other s t k l tl ne)) (runs l within))
+    let run : Run (s k) (lane k tl) = subst (λ (n : ℕ). Run (s n) (lane n tl)) eq (runs l within) in
+    subst (λ (n : ℕ). Run (s n) (lane n (ticked s t k tl))) (sym eq) (entered_run s t k (Clock t) tl (lt, run)))
+    (λ e. let ne : k ≢ l = grind (arith, common_steps) in subst (Run (s l)) (sym (ticked_other s t k l tl ne)) (runs l within))
 
-pub serve_runs : (n : ℕ) (s : Settings) (many count limit : ℕ) (tl : Timeline) → limit < 2 ^ 63 + 2 ^ 50 → AreRuns s many tl → AreRuns s many (serve n s count limit tl)
+pub serve_runs : (n : ℕ) (s : ℕ → Settings) (many count limit : ℕ) (tl : Timeline) → limit < 2 ^ 63 + 2 ^ 50 → AreRuns s many tl → AreRuns s many (serve n s count limit tl)
 serve_runs zero s many count limit tl lt runs = runs
 serve_runs (suc n) s many count limit tl lt runs =
     by_option (next_due s count limit tl)
@@ -179,17 +180,17 @@ serve_runs (suc n) s many count limit tl lt runs =
     (λ w e. let d : IsDue (wake s tl) count limit w = due_is (wake s tl) count limit w e in
     subst (AreRuns s many) (sym (serve_some n s count limit tl w e)) (serve_runs n s many count limit (ticked s w.time w.lane tl) lt (ticked_runs s many w.time w.lane tl (omega (arith, d.le)) runs)))
 
-pub served_runs : (s : Settings) (many count limit : ℕ) (tl : Timeline) → limit < 2 ^ 63 + 2 ^ 50 → AreRuns s many tl → AreRuns s many (served s count limit tl)
+pub served_runs : (s : ℕ → Settings) (many count limit : ℕ) (tl : Timeline) → limit < 2 ^ 63 + 2 ^ 50 → AreRuns s many tl → AreRuns s many (served s count limit tl)
 served_runs s many count limit tl lt runs = serve_runs (rooms limit (wake s tl) count) s many count limit tl lt runs
 
 -- what a law of the list machine says of wakes
 abbrev pub WakesBelow : Type 0
 WakesBelow = (s : Settings) (h : History) → Run s h → IsBelow 9223372646854775808 (wake_of (turn s h))
 
-bounded : WakesBelow → (s : Settings) (count : ℕ) (tl : Timeline) (o : Option Wake) → AreRuns s count tl → IsIn (wake s tl) count o → due END_OF_TIME o ≡ None → o ≡ None
+bounded : WakesBelow → (s : ℕ → Settings) (count : ℕ) (tl : Timeline) (o : Option Wake) → AreRuns s count tl → IsIn (wake s tl) count o → due END_OF_TIME o ≡ None → o ≡ None
 bounded below s count tl None runs h = λ e. refl
 bounded below s count tl (Some w) runs h =
-    let small : IsBelow 9223372646854775808 (Some w.time) = subst (IsBelow 9223372646854775808) h.1 (below s (lane w.lane tl) (runs w.lane h.0)) in
+    let small : IsBelow 9223372646854775808 (Some w.time) = subst (IsBelow 9223372646854775808) h.1 (below (s w.lane) (lane w.lane tl) (runs w.lane h.0)) in
     let le : nat_le w.time END_OF_TIME ≡ true = grind (arith, common_steps) in
     λ e. absurd (differ w (sym (ap (λ (b : Bool). if b then Some w else None) le) ∙ e))
   where
@@ -197,7 +198,7 @@ bounded below s count tl (Some w) runs h =
     differ w e = cc
 
 -- where every lane is a run, no wake at all is left
-pub none_left_at_end : WakesLater → WakesBelow → (s : Settings) (count : ℕ) (tl : Timeline) → AreRuns s count tl → first_wake (wake s (served s count END_OF_TIME tl)) count ≡ None
+pub none_left_at_end : WakesLater → WakesBelow → (s : ℕ → Settings) (count : ℕ) (tl : Timeline) → AreRuns s count tl → first_wake (wake s (served s count END_OF_TIME tl)) count ≡ None
 none_left_at_end rising below s count tl runs =
     let after : Timeline = served s count END_OF_TIME tl in
     bounded below s count after (first_wake (wake s after) count) (served_runs s count count END_OF_TIME tl (omega arith) runs) (first_in (wake s after) count) (served_ends rising s count END_OF_TIME tl)

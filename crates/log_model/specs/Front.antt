@@ -1,5 +1,5 @@
 -- What records bring: lines, and packets for lanes. Lists of records have the newest first.
-use Rattle.std.specs.Prelude.{ℕ, ◌+◌, ◌==◌, ◌&&◌, not, Bool, false, List, [], ◌∷◌, length, Option, Some, None, Result, Ok, Err, is_some, bytes_eq, if◌then◌else◌}
+use Rattle.std.specs.Prelude.{ℕ, ◌+◌, ◌==◌, ◌&&◌, not, Bool, List, [], ◌∷◌, ◌++◌, length, Option, Some, None, Result, Ok, Err, nat_lt, bytes_eq, if◌then◌else◌}
 use Rattle.rtp_units.specs.declared.shared.Address.{Address}
 use Rattle.pcap_file.specs.Capture.{Record}
 use Rattle.pcap_file.specs.Datagrams.{Sent, datagram_of}
@@ -16,7 +16,10 @@ use Rattle.timeline.specs.declared.line.Word.TheVariants as word
 use Rattle.log_model.specs.declared.Source.{Source}
 use Rattle.log_model.specs.declared.Heard.{Heard}
 use Rattle.log_model.specs.declared.Heard.TheVariants as heard
+use Rattle.log_model.specs.declared.TheConstants.{MAX_LANES}
 use Rattle.log_model.specs.declared.Profile.{Profile}
+use Rattle.log_model.specs.declared.Place.{Place}
+use Rattle.log_model.specs.declared.Place.TheVariants as place
 use Rattle.log_model.specs.Times.{Timed}
 
 -- ---- a record by itself
@@ -49,61 +52,71 @@ heard_of s r = heard_datagram s (datagram_of r)
 
 -- ---- among the records before it
 
-abbrev pub sender : Heard → Option Source
-sender (heard.Packet source p) = Some source
-sender h = None
-
-abbrev pub first_known : Option Source → Option Source → Option Source
-first_known (Some source) later = Some source
-first_known None later = later
-
--- the source of the lane: that of the first packet
-abbrev pub source_of : Profile → List Timed → Option Source
-source_of s [] = None
-source_of s (r ∷ older) = first_known (source_of s older) (sender (heard_of s r.captured))
-
--- how many lanes there are: one, from the first packet on
-abbrev pub lane_count : Profile → List Timed → ℕ
-lane_count s rs = if is_some (source_of s rs) then 1 else 0
-
 abbrev pub is_same : Source → Source → Bool
 is_same a b = a.ssrc == b.ssrc && a.from.family == b.from.family && bytes_eq a.from.ip b.from.ip && a.from.port == b.from.port
 
-abbrev pub is_source : Option Source → Source → Bool
-is_source None source = false
-is_source (Some kept) source = is_same kept source
+-- where a source stands among those that have the lanes from this number on
+abbrev pub place_from : ℕ → List Source → Source → Place
+place_from n [] x = if nat_lt n MAX_LANES then place.New else place.Nowhere
+place_from n (a ∷ rest) x =
+    if is_same a x then place.Lane n
+    else if a.ssrc == x.ssrc then place.Nowhere
+    else place_from (n + 1) rest x
+
+abbrev pub with_source : Place → List Source → Source → List Source
+with_source place.New known x = known ++ x ∷ []
+with_source p known x = known
+
+abbrev pub with_heard : List Source → Heard → List Source
+with_heard known (heard.Packet x p) = with_source (place_from 0 known x) known x
+with_heard known h = known
+
+-- the sources that have lanes, in the order of first sight
+abbrev pub sources : Profile → List Timed → List Source
+sources s [] = []
+sources s (r ∷ older) = with_heard (sources s older) (heard_of s r.captured)
+
+-- how many lanes there are
+abbrev pub lane_count : Profile → List Timed → ℕ
+lane_count s rs = length (sources s rs)
 
 -- a packet for a lane
 pub record Delivery : Type 0 where
   pub lane : ℕ
   pub packet : Packet
 
--- the lines that the front tells of a record, whether it makes the lane, and the packet that it gives to a lane
+-- the lines that the front tells of a record, the lane that it makes, and the packet that it gives to a lane
 pub record Brought : Type 0 where
   pub lines : List BinLine
-  pub makes : Bool
+  pub makes : Option ℕ
   pub delivery : Option Delivery
 
 abbrev pub skipped : ℕ → ℕ → Word → Brought
-skipped time number reason = record { lines = told.Skip time number reason ∷ []; makes = false; delivery = None }
+skipped time number reason = record { lines = told.Skip time number reason ∷ []; makes = None; delivery = None }
 
--- the first packet makes a lane
-abbrev pub opening : Profile → ℕ → Option Source → Source → List BinLine
-opening s time (Some kept) source = []
-opening s time None source = told.Pt time s.session s.payload_type s.settings.rate ∷ told.Lane time 0 s.session source.ssrc ∷ []
+-- the payload type is first routed for the first lane
+abbrev pub routing : Profile → ℕ → ℕ → List BinLine
+routing s time lane = if lane == 0 then told.Pt time s.session s.payload_type s.settings.rate ∷ [] else []
 
--- a packet of the lane's source goes to the lane; a second source is not built yet
-abbrev pub brought_packet : Profile → List Timed → Timed → Source → Packet → Brought
-brought_packet s older r source p =
-    if is_source (source_of s (r ∷ older)) source
-    then record { lines = opening s r.time (source_of s older) source; makes = not (is_some (source_of s older)); delivery = Some (record { lane = 0; packet = p }) }
-    else skipped r.time (length older + 1) word.Unbuilt
+-- the lines that a lane is made with
+abbrev pub opening : Profile → ℕ → ℕ → Source → List BinLine
+opening s time lane source = routing s time lane ++ told.Lane time lane s.session source.ssrc ∷ []
 
-abbrev pub brought : Profile → List Timed → Timed → Heard → Brought
-brought s older r (heard.Skip why) = skipped r.time (length older + 1) why
-brought s older r (heard.Bad why) = record { lines = told.Bad r.time s.session why ∷ []; makes = false; delivery = None }
-brought s older r (heard.Packet source p) = brought_packet s older r source p
+abbrev pub given : ℕ → Packet → Option Delivery
+given lane p = Some (record { lane = lane; packet = p })
+
+-- A packet goes to the lane of its source, which is made for the first one. What has no place is not built yet.
+abbrev pub brought_to : Place → Profile → ℕ → ℕ → ℕ → Source → Packet → Brought
+brought_to (place.Lane l) s time number lanes source p = record { lines = []; makes = None; delivery = given l p }
+brought_to place.New s time number lanes source p = record { lines = opening s time lanes source; makes = Some lanes; delivery = given lanes p }
+brought_to place.Nowhere s time number lanes source p = skipped time number word.Unbuilt
+
+-- of what a record brings as number of all records, where these sources have lanes
+abbrev pub brought : Profile → ℕ → ℕ → List Source → Heard → Brought
+brought s time number known (heard.Skip why) = skipped time number why
+brought s time number known (heard.Bad why) = record { lines = told.Bad time s.session why ∷ []; makes = None; delivery = None }
+brought s time number known (heard.Packet source p) = brought_to (place_from 0 known source) s time number (length known) source p
 
 -- what a record brings after these ones; records count from 1
 abbrev pub brings : Profile → List Timed → Timed → Brought
-brings s older r = brought s older r (heard_of s r.captured)
+brings s older r = brought s r.time (length older + 1) (sources s older) (heard_of s r.captured)

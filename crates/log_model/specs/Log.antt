@@ -1,5 +1,6 @@
 -- The log of inputs: the records of a capture at their times, and the items of a script.
 use Rattle.std.specs.Prelude.{ℕ, ◌≡◌, List, [], ◌∷◌, ◌++◌, length, reverse}
+use Rattle.jitter_model.specs.declared.Settings.{Settings}
 use Rattle.timeline.specs.declared.line.BinLine.{BinLine}
 use Rattle.log_model.specs.declared.TheConstants.{END_OF_TIME}
 use Rattle.log_model.specs.declared.Profile.{Profile}
@@ -15,9 +16,13 @@ abbrev pub all_told : ℕ → List BinLine → Timeline → Timeline
 all_told t [] tl = tl
 all_told t (x ∷ xs) tl = all_told t xs (Told t x ∷ tl)
 
+-- the settings of a lane are those of its session
+abbrev pub lane_settings : Profile → ℕ → Settings
+lane_settings s l = s.settings
+
 -- what a record brings: its lines, the lane that it makes, then its packet
 abbrev pub with_brought : Profile → Standing → ℕ → Brought → Timeline → Timeline
-with_brought s k t b tl = delivered s.settings s.session t b.delivery (begun b.makes k t (all_told t b.lines tl))
+with_brought s k t b tl = delivered (lane_settings s) s.session t b.delivery (begun b.makes k t (all_told t b.lines tl))
 
 -- how many lanes there are
 abbrev pub lanes_in : Profile → List Input → ℕ
@@ -25,8 +30,8 @@ lanes_in s xs = lane_count s (records_in xs)
 
 -- an input after these ones: the wakes up to its time come before it
 abbrev pub with_input : Profile → List Input → Input → Timeline → Timeline
-with_input s older (OfCapture r) tl = with_brought s (standing s older) r.time (brings s (records_in older) r) (served s.settings (lanes_in s older) r.time tl)
-with_input s older (OfScript i) tl = controlled s.settings (lanes_in s older) i (served s.settings (lanes_in s older) i.time tl)
+with_input s older (OfCapture r) tl = with_brought s (standing s older) r.time (brings s (records_in older) r) (served (lane_settings s) (lanes_in s older) r.time tl)
+with_input s older (OfScript i) tl = controlled (lane_settings s) (lanes_in s older) i (served (lane_settings s) (lanes_in s older) i.time tl)
 
 -- what happened up to these inputs, the newest of which is the first
 abbrev pub timeline : Profile → List Input → Timeline
@@ -35,7 +40,7 @@ timeline s (x ∷ older) = with_input s older x (timeline s older)
 
 -- after the last input: the wakes that are left, until there is none, and then at the last time the ends
 abbrev pub closed : Profile → ℕ → Timeline → Timeline
-closed s lanes tl = all_ended s.settings s.session (latest (served s.settings lanes END_OF_TIME tl)) lanes (served s.settings lanes END_OF_TIME tl)
+closed s lanes tl = all_ended (lane_settings s) s.session (latest (served (lane_settings s) lanes END_OF_TIME tl)) lanes (served (lane_settings s) lanes END_OF_TIME tl)
 
 abbrev pub whole_timeline : Profile → List Input → Timeline
 whole_timeline s xs = closed s (lanes_in s xs) (timeline s xs)

@@ -16,38 +16,34 @@ use Rattle.log_model.specs.declared.Control.{Control}
 use Rattle.log_model.specs.declared.Control.TheVariants as control
 use Rattle.log_model.specs.declared.Item.{Item}
 use Rattle.log_model.specs.declared.Standing.{Standing}
+use Rattle.log_model.specs.declared.Wake.{Wake}
 use Rattle.log_model.specs.Front.{Delivery}
 use Rattle.log_model.specs.Events.{Timeline, Came, Told, At, lane}
 
 -- ---- turns
 
 -- a turn of a lane
-abbrev pub turned : Settings → ℕ → ℕ → Timeline → Timeline
-turned s t l tl = At t l (Turned (turn s (lane l tl))) ∷ tl
+abbrev pub turned : (ℕ → Settings) → ℕ → ℕ → Timeline → Timeline
+turned s t l tl = At t l (Turned (turn (s l) (lane l tl))) ∷ tl
 
 -- turns of a lane, until one is answered Idle or Flushing, and at most so many
-abbrev pub turns : ℕ → Settings → ℕ → ℕ → Timeline → Timeline
+abbrev pub turns : ℕ → (ℕ → Settings) → ℕ → ℕ → Timeline → Timeline
 turns zero s t l tl = tl
-turns (suc n) s t l tl = if is_quiet (turn s (lane l tl)) then tl else turns n s t l (turned s t l tl)
+turns (suc n) s t l tl = if is_quiet (turn (s l) (lane l tl)) then tl else turns n s t l (turned s t l tl)
 
 -- turns of a lane, until one is answered Idle or Flushing: there are no more of others than `left` says
-abbrev pub settled : Settings → ℕ → ℕ → Timeline → Timeline
-settled s t l tl = turns (left s (lane l tl)) s t l tl
+abbrev pub settled : (ℕ → Settings) → ℕ → ℕ → Timeline → Timeline
+settled s t l tl = turns (left (s l) (lane l tl)) s t l tl
 
 -- a lane's clock comes to a time, and it takes turns
-abbrev pub ticked : Settings → ℕ → ℕ → Timeline → Timeline
+abbrev pub ticked : (ℕ → Settings) → ℕ → ℕ → Timeline → Timeline
 ticked s t l tl = settled s t l (At t l (Clock t) ∷ tl)
 
 -- ---- wakes
 
 -- the time at which a lane wants a turn, if it wants one
-abbrev pub wake : Settings → Timeline → ℕ → Option ℕ
-wake s tl l = wake_of (turn s (lane l tl))
-
--- a time of a lane
-pub record Wake : Type 0 where
-  pub time : ℕ
-  pub lane : ℕ
+abbrev pub wake : (ℕ → Settings) → Timeline → ℕ → Option ℕ
+wake s tl l = wake_of (turn (s l) (lane l tl))
 
 -- the earlier one; the first of two at one time
 abbrev pub with_wake : Option Wake → ℕ → Option ℕ → Option Wake
@@ -75,17 +71,17 @@ rooms limit wakes zero = 0
 rooms limit wakes (suc l) = rooms limit wakes l + room limit (wakes l)
 
 -- a wake is a tick of its lane at its time
-abbrev pub serve_due : (Timeline → Timeline) → Settings → Option Wake → Timeline → Timeline
+abbrev pub serve_due : (Timeline → Timeline) → (ℕ → Settings) → Option Wake → Timeline → Timeline
 serve_due more s None tl = tl
 serve_due more s (Some w) tl = more (ticked s w.time w.lane tl)
 
 -- wakes of the first lanes up to a limit, in order of time and lane, until none is due, and at most so many
-abbrev pub serve : ℕ → Settings → ℕ → ℕ → Timeline → Timeline
+abbrev pub serve : ℕ → (ℕ → Settings) → ℕ → ℕ → Timeline → Timeline
 serve zero s count limit tl = tl
 serve (suc n) s count limit tl = serve_due (serve n s count limit) s (due limit (first_wake (wake s tl) count)) tl
 
 -- wakes of the first lanes up to a limit, in order of time and lane, until none is due: there are no more than `rooms` says
-abbrev pub served : Settings → ℕ → ℕ → Timeline → Timeline
+abbrev pub served : (ℕ → Settings) → ℕ → ℕ → Timeline → Timeline
 served s count limit tl = serve (rooms limit (wake s tl) count) s count limit tl
 
 -- ---- items
@@ -107,24 +103,24 @@ all_acted t zero c tl = tl
 all_acted t (suc l) c tl = acted t l c (At t l (Clock t) ∷ all_acted t l c tl)
 
 -- the clocks of the first lanes come to a time, and they take turns, in order
-abbrev pub all_ticked : Settings → ℕ → ℕ → Timeline → Timeline
+abbrev pub all_ticked : (ℕ → Settings) → ℕ → ℕ → Timeline → Timeline
 all_ticked s t zero tl = tl
 all_ticked s t (suc l) tl = ticked s t l (all_ticked s t l tl)
 
 -- an item comes to the first lanes, and then they take turns
-abbrev pub controlled : Settings → ℕ → Item → Timeline → Timeline
+abbrev pub controlled : (ℕ → Settings) → ℕ → Item → Timeline → Timeline
 controlled s count i tl = all_ticked s i.time count (all_acted i.time count i.control (Came i.time ∷ tl))
 
 -- ---- the begin of a lane
 
-abbrev pub flushed_at_begin : Bool → ℕ → Timeline → Timeline
-flushed_at_begin true t tl = flush_begun t 0 tl
-flushed_at_begin false t tl = tl
+abbrev pub flushed_at_begin : Bool → ℕ → ℕ → Timeline → Timeline
+flushed_at_begin true t l tl = flush_begun t l tl
+flushed_at_begin false t l tl = tl
 
 -- a lane that is made begins with the latency that its session has, and in its flush
-abbrev pub begun : Bool → Standing → ℕ → Timeline → Timeline
-begun true k t tl = flushed_at_begin k.flushing t (At t 0 (Latency k.latency) ∷ tl)
-begun false k t tl = tl
+abbrev pub begun : Option ℕ → Standing → ℕ → Timeline → Timeline
+begun (Some l) k t tl = flushed_at_begin k.flushing t l (At t l (Latency k.latency) ∷ tl)
+begun None k t tl = tl
 
 -- ---- packets
 
@@ -136,21 +132,21 @@ abbrev pub entry_of : Arrival → Pushed → Entry
 entry_of a reply = Push a reply.verdict reply.number reply.aside_dropped
 
 -- a packet is pushed into a lane
-abbrev pub pushed : Settings → ℕ → ℕ → Arrival → Timeline → Timeline
-pushed s t l a tl = At t l (entry_of a (reply_to_push s (lane l tl) a)) ∷ tl
+abbrev pub pushed : (ℕ → Settings) → ℕ → ℕ → Arrival → Timeline → Timeline
+pushed s t l a tl = At t l (entry_of a (reply_to_push (s l) (lane l tl) a)) ∷ tl
 
 -- a packet of a session comes to its lane, which takes turns then
-abbrev pub delivered : Settings → ℕ → ℕ → Option Delivery → Timeline → Timeline
+abbrev pub delivered : (ℕ → Settings) → ℕ → ℕ → Option Delivery → Timeline → Timeline
 delivered s session t None tl = tl
 delivered s session t (Some d) tl = ticked s t d.lane (pushed s t d.lane (arrival_at session t d.packet) tl)
 
 -- ---- ends
 
 -- the pushers of a lane end, the session and then the script, and turns are taken after each
-abbrev pub ended : Settings → ℕ → ℕ → ℕ → Timeline → Timeline
+abbrev pub ended : (ℕ → Settings) → ℕ → ℕ → ℕ → Timeline → Timeline
 ended s session t l tl = settled s t l (At t l (Ends CONTROL) ∷ settled s t l (At t l (Ends session) ∷ tl))
 
 -- the first lanes end, in order
-abbrev pub all_ended : Settings → ℕ → ℕ → ℕ → Timeline → Timeline
+abbrev pub all_ended : (ℕ → Settings) → ℕ → ℕ → ℕ → Timeline → Timeline
 all_ended s session t zero tl = tl
 all_ended s session t (suc l) tl = ended s session t l (all_ended s session t l tl)

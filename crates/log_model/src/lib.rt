@@ -15,6 +15,9 @@ pub const CONTROL: u8 = 8;
 /// Later than every wake: a presentation time is below 2^63 nanoseconds, a latency at most 600 seconds.
 pub const END_OF_TIME: u64 = 9_224_497_936_761_618_431;
 
+/// The most lanes of a replay.
+pub const MAX_LANES: usize = 64;
+
 /// What a script chooses for its one session.
 #[derive(Clone, Copy, Debug, PartialEq, Eq, Drop)]
 pub struct Profile {
@@ -28,7 +31,7 @@ pub struct Profile {
     pub payload_type: u8,
     /// The program's own SSRC, which no sender may use.
     pub own_ssrc: u32,
-    /// The settings of its lane, whose pushers are the session and the script.
+    /// The settings of its lanes, whose pushers are the session and the script.
     pub settings: Settings,
 }
 
@@ -66,6 +69,24 @@ pub struct Standing {
 pub struct Source {
     pub ssrc: u32,
     pub from: Address,
+}
+
+/// Where a source stands among those that have lanes.
+#[derive(Clone, Copy, Debug, PartialEq, Eq, Drop)]
+pub enum Place {
+    /// It has the lane of this number.
+    Lane(usize),
+    /// Nobody has its SSRC, and there may be one lane more.
+    New,
+    /// Another source has its SSRC, or there are lanes enough.
+    Nowhere,
+}
+
+/// A time in nanoseconds at which the lane of this number wants a turn.
+#[derive(Clone, Copy, Debug, PartialEq, Eq, Drop)]
+pub struct Wake {
+    pub time: u64,
+    pub lane: usize,
 }
 
 /// What a record brings, whatever came before it.

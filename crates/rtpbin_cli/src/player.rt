@@ -38,7 +38,7 @@ impl Player {
         ensures stands { BinStands profile.now result.bin [] }
     {
         Player {
-            bin: Bin::new(profile),
+            bin: Bin::new(alloc, profile),
             lines: Lines::new(alloc),
             hex,
         }

@@ -1,0 +1,29 @@
+use Rattle.std.proofs.Common.{ℕ, suc, ◌≡◌, ◌<◌, ◌+◌, subst, length, arith}
+use Rattle.std.specs.Prelude.{set}
+use Rattle.log_model.specs.Waking.{all_acted}
+use Rattle.bin_core.specs.AllLanes.{LanesTell}
+use Rattle.bin_core.proofs.Placing.{same_then, same_set, one_tells, all_tell}
+use Rattle.bin_core.proofs.lanes.control_all.Goals as goal
+
+pub returns-in_err-control-clause-stays : goal.returns-in_err-control-clause-stays
+returns-in_err-control-clause-stays c =
+    let below : c.loop-i.i < length c.loop-i.lanes.items = omega (arith, c.loop-i-test.true, c.loop-i.invariant.end, c.loop-i.invariant.stays.count) in
+    same_then c.args.lanes.now.items c.loop-i.lanes.items _ c.loop-i.invariant.stays (same_set c.loop-i.lanes.items c.loop-i.i c.index_mut.result.now c.control.new.self below c.index_mut.ensures.value c.control.ensures.stays)
+
+pub loop-i-preserved : goal.loop-i-preserved
+loop-i-preserved c =
+    let below : c.loop-i.i < length c.loop-i.lanes.items = omega (arith, c.loop-i-test.true, c.loop-i.invariant.end, c.loop-i.invariant.stays.count) in
+    let one_more : suc c.loop-i.i ≡ c.loop-i.i + 1 = omega arith in
+    record {
+      stays = same_then c.args.lanes.now.items c.loop-i.lanes.items _ c.loop-i.invariant.stays (same_set c.loop-i.lanes.items c.loop-i.i c.index_mut.result.now c.control.new.self below c.index_mut.ensures.value c.control.ensures.stays);
+      end = c.loop-i.invariant.end;
+      run = λ s base tl h.
+          subst (λ (n : ℕ). LanesTell s base (set c.loop-i.lanes.items c.loop-i.i c.control.new.self) c.control.new.lines (all_acted c.args.item.now.time n c.args.item.now.control tl)) one_more
+          (all_tell s base c.loop-i.lanes.items c.loop-i.i c.control.new.self c.loop-i.lines c.control.new.lines _ _ below (c.loop-i.invariant.run s base tl h)
+          (c.in_ok-control.ensures.stands s _ c.loop-i.i _ (one_tells s base c.loop-i.lanes.items c.loop-i.i c.index_mut.result.now c.loop-i.lines _ below c.index_mut.ensures.value (c.loop-i.invariant.run s base tl h))));
+    }
+
+pub returns-clause-stands : goal.returns-clause-stands
+returns-clause-stands c =
+    λ s base tl h. let all : c.loop-i.i ≡ length c.args.lanes.now.items = omega (arith, c.loop-i.invariant.end, c.loop-i-test.false, c.loop-i.auto.i-end) in
+    subst (λ (n : ℕ). LanesTell s base c.loop-i.lanes.items c.loop-i.lines (all_acted c.args.item.now.time n c.args.item.now.control tl)) all (c.loop-i.invariant.run s base tl h)
