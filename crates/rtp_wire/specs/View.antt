@@ -2,7 +2,7 @@
 use Rattle.std.specs.Prelude.{◌≡◌, ◌≤◌, ℕ, ◌+◌, ◌-◌, ◌*◌, ◌/◌, ◌%◌, ◌==◌, true, false, if◌then◌else◌, Bool, List, map, length, take, drop, slice_index, Option, Some, None}
 use Rattle.std.specs.List.{range_with_len}
 use Rattle.rtp_wire.specs.Network.{number16, number32}
-use Rattle.rtp_wire.specs.Packet.{Packet, version_of, has_padding, has_extension, csrc_count, csrcs_end, header_end, last_byte, first_fault}
+use Rattle.rtp_wire.specs.Packet.{Packet, IsPacket, version_of, has_padding, has_extension, csrc_count, csrcs_end, header_end, last_byte, first_fault}
 
 abbrev pub csrcs_of : List ℕ → ℕ → List ℕ
 csrcs_of bytes count = map (λ k. number32 bytes (12 + 4 * k)) (range_with_len 0 count)
@@ -45,3 +45,8 @@ pub record IsRead (bytes : List ℕ) (end padding : ℕ) : Type 0 where
   pub fits : first_fault bytes ≡ None
   pub count : padding ≡ padding_of bytes
   pub room : end + padding ≤ length bytes
+
+-- A packet is the one that its bytes show, and they fail no test.
+abbrev pub AreTheirBytes : Type 0
+AreTheirBytes =
+    (p : Packet) → IsPacket p → (first_fault p.bytes ≡ None) × (p ≡ packet_of p.bytes)

@@ -34,15 +34,15 @@ packet_with f bytes = record {
 
 -- ---- the pieces that are written one after the other
 
-abbrev pub first_byte : Packet → ℕ
-first_byte p = 128 + (if is_some p.extension then 16 else 0) + length p.csrcs
+abbrev pub version_byte : Packet → ℕ
+version_byte p = 128 + (if is_some p.extension then 16 else 0) + length p.csrcs
 
-abbrev pub second_byte : Packet → ℕ
-second_byte p = (if p.marker then 128 else 0) + p.pt
+abbrev pub type_byte : Packet → ℕ
+type_byte p = (if p.marker then 128 else 0) + p.pt
 
 -- the twelve bytes that each header has
 abbrev pub fixed_bytes : Packet → List ℕ
-fixed_bytes p = (first_byte p ∷ second_byte p ∷ []) ++ big_bytes 2 p.seq ++ big_bytes 4 p.timestamp ++ big_bytes 4 p.ssrc
+fixed_bytes p = (version_byte p ∷ type_byte p ∷ []) ++ big_bytes 2 p.seq ++ big_bytes 4 p.timestamp ++ big_bytes 4 p.ssrc
 
 abbrev pub csrc_bytes : List ℕ → List ℕ
 csrc_bytes csrcs = flat_map (big_bytes 4) csrcs

@@ -8,6 +8,7 @@
 mod fault;
 mod fields;
 mod header;
+pub mod laws;
 mod network;
 mod reading;
 mod view;

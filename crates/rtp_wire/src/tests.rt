@@ -47,7 +47,8 @@ fn padding_counts(rt: HostRuntime) {
     }
 }
 
-/// The bytes of the fields, and what reading gives of them, by the contracts of the two calls alone.
+/// The bytes of the fields, and that reading them gives the same number and SSRC, by the contracts of the two
+/// calls alone.
 fn written(alloc: Global, fields: &RtpFields<'_>) -> Result<Blob, OutOfMemory>
     requires { IsWritable fields.now }
 {

@@ -1,7 +1,8 @@
 //! Writing a packet.
 ghost use Rattle.std.specs.Prelude.{◌≡◌, ◌<◌, ◌^◌, ◌%◌, ◌≤◌, ◌++◌, [], ℕ, length, slice_index, option_map, IfOk, OnOk, IfSome};
 ghost use Rattle.rtp_wire.specs.Packet.{AreWords, IsPacket};
-ghost use Rattle.rtp_wire.specs.Written.{IsWritable, IsInRange, packet_with, first_byte as byte_one, second_byte as byte_two, fixed_bytes, csrc_bytes, extension_bytes};
+ghost use Rattle.rtp_wire.specs.Written.{IsWritable, IsInRange, packet_with, version_byte, type_byte};
+ghost use Rattle.rtp_wire.specs.Written.{fixed_bytes, csrc_bytes, extension_bytes, spelling};
 
 use crate::fields::RtpFields;
 use crate::header::{EXTENSION_HEAD, FIXED_SIZE};
@@ -18,10 +19,12 @@ const EXTENSION_BIT: u8 = 0x10;
 /// The marker bit of the second byte.
 const MARKER_BIT: u8 = 0x80;
 
-/// The bytes of a packet with these fields and without padding. `read` gives the same fields of them.
+/// The bytes of a packet with these fields and without padding, which are a function of the fields. `read`
+/// gives the same fields of them.
 pub fn write(alloc: Global, fields: &RtpFields<'_>) -> Result<Blob, OutOfMemory>
     requires { IsWritable fields.now }
-    ensures { IfOk result (λ blob. IsPacket (packet_with fields.now blob)) }
+    ensures bytes { IfOk result (λ blob. blob ≡ spelling (packet_with fields.now [])) }
+    ensures packet { IfOk result (λ blob. IsPacket (packet_with fields.now blob)) }
 {
     let mut bytes = Vec::with_capacity(alloc, size_of(fields))?;
     push_fixed(&mut bytes, fields)?;
@@ -46,7 +49,8 @@ fn size_of(fields: &RtpFields<'_>) -> usize
 /// The twelve bytes that each header has.
 fn push_fixed(out: &mut Vec<u8>, fields: &RtpFields<'_>) -> Result<(), OutOfMemory>
     requires { fields.now.pt ≤ 127 }
-    ensures bytes { OnOk result (out.new.items ≡ out.old.items ++ fixed_bytes (packet_with fields.now [])) }
+    ensures bytes { OnOk result (out.new.items
+        ≡ out.old.items ++ fixed_bytes (packet_with fields.now [])) }
     ensures ranges { OnOk result (IsInRange fields.now) }
 {
     out.push(first_byte(fields))?;
@@ -58,7 +62,7 @@ fn push_fixed(out: &mut Vec<u8>, fields: &RtpFields<'_>) -> Result<(), OutOfMemo
 }
 
 fn first_byte(fields: &RtpFields<'_>) -> u8
-    ensures value { result ≡ byte_one (packet_with fields.now []) }
+    ensures value { result ≡ version_byte (packet_with fields.now []) }
     ensures csrcs { length fields.now.csrcs.items ≤ 15 }
 {
     let count = fields.csrcs.len() as u8;
@@ -70,7 +74,7 @@ fn first_byte(fields: &RtpFields<'_>) -> u8
 
 fn second_byte(fields: &RtpFields<'_>) -> u8
     requires { fields.now.pt ≤ 127 }
-    ensures { result ≡ byte_two (packet_with fields.now []) }
+    ensures { result ≡ type_byte (packet_with fields.now []) }
 {
     if fields.marker {
         MARKER_BIT + fields.pt
@@ -91,7 +95,8 @@ fn push_csrcs(out: &mut Vec<u8>, csrcs: &[u32]) -> Result<(), OutOfMemory>
 
 fn push_extension(out: &mut Vec<u8>, extension: Option<(u16, &[u8])>) -> Result<(), OutOfMemory>
     requires { IfSome extension (λ x. AreWords x.1.now) }
-    ensures bytes { OnOk result (out.new.items ≡ out.old.items ++ extension_bytes (option_map (λ x. (x.0, x.1.now)) extension.entry)) }
+    ensures bytes { OnOk result (out.new.items
+        ≡ out.old.items ++ extension_bytes (option_map (λ x. (x.0, x.1.now)) extension.entry)) }
     ensures range { OnOk result (IfSome extension.entry (λ x. x.0 < 2 ^ 16)) }
 {
     if let Some((profile, words)) = extension {
