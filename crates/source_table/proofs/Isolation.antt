@@ -1,6 +1,7 @@
 -- A table keeps of each source what the calls on it leave.
-use Rattle.std.proofs.Common.{◌≡◌, ℕ, Bool, true, false, cond, not, nat_eq, List, [], ◌∷◌, Option, Some, None, Ok, Err, filter, refl, sym, ap, subst, ◌∙◌, arith}
-use Rattle.std.specs.Prelude.{option_map}
+use Rattle.std.proofs.Common.{◌≡◌, ℕ, Bool, true, false, cond, not, nat_eq, List, [], ◌∷◌, Option, Some, None, Ok, Err, map, filter, refl, sym, ap, subst, ◌∙◌, arith}
+use Rattle.std.specs.Prelude.{◌||◌, Result, option_map, if◌then◌else◌}
+use Rattle.std.specs.List.{list_any}
 use Rattle.std.specs.Map.{lookup}
 use Rattle.std.proofs.lemmas.Bool.{eq-eqb, eqb-true}
 use Rattle.std.proofs.lemmas.Bool.Decides.{nat_tests}
@@ -8,62 +9,23 @@ use Rattle.indexmap.specs.IndexMap.{insert_entry}
 use Rattle.rtp_units.specs.declared.shared.Address.{Address}
 use Rattle.rtp_wire.specs.Packet.{Packet as View}
 use Rattle.source_table.specs.declared.source.Source.{Source}
+use Rattle.source_table.specs.declared.source.Packet.{Packet}
 use Rattle.source_table.specs.declared.source.Heard.{Heard}
 use Rattle.source_table.specs.declared.answers.Refuse.{Refuse}
-use Rattle.source_table.specs.declared.answers.Refuse.TheVariants.{Own, LimitSources, Collision, OutOfMemory}
 use Rattle.source_table.specs.declared.answers.Named.{Named}
-use Rattle.source_table.specs.declared.answers.Named.TheVariants.{Unknown, Same, Changed}
+use Rattle.source_table.specs.declared.answers.Named.TheVariants.{Same, Changed}
 use Rattle.source_table.specs.Sources.{hear_next, report_next, left_next, is_gone, reported}
-use Rattle.source_table.specs.Table.{Table, kept, packet_of, with_source, changed_by, changed, Takes, Hears, Names}
-use Rattle.source_table.specs.History.{Call, Rtp, Reports, Leaves, Sets, Blocks, Expires, Leads, StandsFor, source_or, packet_by, only_if, alone_next, alone, IsIsolated}
+use Rattle.source_table.specs.Table.{Table, kept, name_of, packet_of, with_source, changed_by, changed, all_reported, gone, expired}
+use Rattle.source_table.specs.Answers.{source_or, is_name, heard, heard_next_by, named_by, name_next, name_next_by, named}
+use Rattle.source_table.specs.History.{Call, Rtp, Reports, Leaves, Sets, Block, Blocks, Expires, table, table_next, IsAnswered, AreAnswered, StandsFor, Told, told_of, told, told_name, packet_by, only_if, told_heard, told_changed, told_named, alone_next, alone, IsIsolated, IsNamedIfKept}
+use Rattle.source_table.proofs.Answering.{is_the_name}
+use Rattle.source_table.proofs.Entries.{at, Distinct, distinct_put, put_at}
 
 abbrev Entries : Type 0
 Entries = List (ℕ × Source)
 
-abbrev at : ℕ → Entries → Option Source
-at k es = lookup (nat_eq k) es
-
--- no key stands twice
-abbrev Distinct : Entries → Type 0
-Distinct [] = Unit {0}
-Distinct (e ∷ es) = (at e.0 es ≡ None) × Distinct es
-
--- ---- a source that is put
-
-same_by : (b : Bool) (k x : ℕ) (v w : Source) (es ins : Entries) → nat_eq k x ≡ b → at k ins ≡ Some v → at k (cond b ((x, v) ∷ es) ((x, w) ∷ ins)) ≡ Some v
-same_by true k x v w es ins e rest = rw e refl
-same_by false k x v w es ins e rest = rw e rest
-
-at_same : (es : Entries) (k : ℕ) (v : Source) → at k (insert_entry nat_eq es k v) ≡ Some v
-at_same [] k v = let e : nat_eq k k ≡ true = eq-eqb k k refl in rw e refl
-at_same (e ∷ es) k v = same_by (nat_eq k e.0) k e.0 v e.1 es (insert_entry nat_eq es k v) refl (at_same es k v)
-
-other_by : (b : Bool) (j k x : ℕ) (v w : Source) (es ins : Entries) → nat_eq k x ≡ b → nat_eq j k ≡ false → at j ins ≡ at j es → at j (cond b ((x, v) ∷ es) ((x, w) ∷ ins)) ≡ at j ((x, w) ∷ es)
-other_by true j k x v w es ins e other rest =
-    let same : k ≡ x = eqb-true k x e in
-    let apart : nat_eq j x ≡ false = subst (λ (y : ℕ). nat_eq j y ≡ false) same other in
-    rw apart refl
-other_by false j k x v w es ins e other rest = ap (λ (o : Option Source). cond (nat_eq j x) (Some w) o) rest
-
-at_other : (es : Entries) (j k : ℕ) (v : Source) → nat_eq j k ≡ false → at j (insert_entry nat_eq es k v) ≡ at j es
-at_other [] j k v other = rw other refl
-at_other (e ∷ es) j k v other = other_by (nat_eq k e.0) j k e.0 v e.1 es (insert_entry nat_eq es k v) refl other (at_other es j k v other)
-
-turned : (a b : ℕ) → nat_eq a b ≡ false → nat_eq b a ≡ false
-turned a b e = grind (arith, nat_tests)
-
-distinct_by : (b : Bool) (k x : ℕ) (v w : Source) (es ins : Entries) → nat_eq k x ≡ b → at x es ≡ None → Distinct es → Distinct ins → (nat_eq x k ≡ false → at x ins ≡ at x es) → Distinct (cond b ((x, v) ∷ es) ((x, w) ∷ ins))
-distinct_by true k x v w es ins e none d rest h = (none, d)
-distinct_by false k x v w es ins e none d rest h = (h (turned k x e) ∙ none, rest)
-
-distinct_put : (es : Entries) (k : ℕ) (v : Source) → Distinct es → Distinct (insert_entry nat_eq es k v)
-distinct_put [] k v d = (refl, tt)
-distinct_put (e ∷ es) k v d = distinct_by (nat_eq k e.0) k e.0 v e.1 es (insert_entry nat_eq es k v) refl d.0 d.1 (distinct_put es k v d.1) (at_other es e.0 k v)
-
--- what is kept once this source is put
-put_at : (es : Entries) (k x : ℕ) (v : Source) (b : Bool) → nat_eq k x ≡ b → at k (insert_entry nat_eq es x v) ≡ cond b (Some v) (at k es)
-put_at es k x v true e = let same : k ≡ x = eqb-true k x e in subst (λ (y : ℕ). at k (insert_entry nat_eq es y v) ≡ Some v) same (at_same es k v)
-put_at es k x v false e = at_other es k x v e
+abbrev Names : Type 0
+Names = List (ℕ × List ℕ)
 
 -- ---- sources that are left
 
@@ -92,16 +54,91 @@ distinct_left : (es : Entries) (p : Source → Bool) → Distinct es → Distinc
 distinct_left [] p d = tt
 distinct_left (e ∷ es) p d = distinct_kept (p e.1) e.0 p e.1 es (left_at es e.0 p d.1 ∙ ap (only_if p) d.0) (distinct_left es p d.1)
 
+-- ---- all sources, each changed
+
+changed_by_test : (b : Bool) (f : Source → Source) (v : Source) (o p : Option Source) → p ≡ option_map f o → cond b (Some (f v)) p ≡ option_map f (cond b (Some v) o)
+changed_by_test true f v o p e = refl
+changed_by_test false f v o p e = e
+
+pub map_at : (f : Source → Source) (es : Entries) (k : ℕ) → at k (map (λ e. (e.0, f e.1)) es) ≡ option_map f (at k es)
+map_at f [] k = refl
+map_at f (e ∷ es) k = changed_by_test (nat_eq k e.0) f e.1 (at k es) (at k (map (λ x. (x.0, f x.1)) es)) (map_at f es k)
+
+distinct_map : (f : Source → Source) (es : Entries) → Distinct es → Distinct (map (λ e. (e.0, f e.1)) es)
+distinct_map f [] d = tt
+distinct_map f (e ∷ es) d = (map_at f es e.0 ∙ ap (option_map f) d.0, distinct_map f es d.1)
+
+-- ---- sources that are gone, and names without them
+
+abbrev has : (Source → Bool) → Option Source → Bool
+has p None = false
+has p (Some s) = p s
+
+gone_by : (q b : Bool) (k : ℕ) (e : ℕ × Source) (p : Source → Bool) (es left_ones : Entries) → p e.1 ≡ q → nat_eq k e.0 ≡ b → at e.0 es ≡ None
+    → list_any (nat_eq k) (map (λ x. x.0) left_ones) ≡ has p (at k es) → list_any (nat_eq k) (map (λ x. x.0) (cond q (e ∷ left_ones) left_ones)) ≡ has p (cond b (Some e.1) (at k es))
+gone_by true true k e p es l f g d h = ap (λ (c : Bool). c || list_any (nat_eq k) (map (λ x. x.0) l)) g ∙ sym f
+gone_by true false k e p es l f g d h = ap (λ (c : Bool). c || list_any (nat_eq k) (map (λ x. x.0) l)) g ∙ h
+gone_by false true k e p es l f g d h =
+    let same : k ≡ e.0 = eqb-true k e.0 g in
+    let none : at k es ≡ None = subst (λ (y : ℕ). at y es ≡ None) (sym same) d in
+    h ∙ ap (has p) none ∙ sym f
+gone_by false false k e p es l f g d h = h
+
+gone_at : (p : Source → Bool) (es : Entries) (k : ℕ) → Distinct es → list_any (nat_eq k) (map (λ e. e.0) (filter (λ e. p e.1) es)) ≡ has p (at k es)
+gone_at p [] k d = refl
+gone_at p (e ∷ es) k d = gone_by (p e.1) (nat_eq k e.0) k e p es (filter (λ x. p x.1) es) refl refl d.0 (gone_at p es k d.1)
+
+without_by : (g b : Bool) (k : ℕ) (e : ℕ × List ℕ) (ns left : Names) (all : Bool) → nat_eq k e.0 ≡ b → (nat_eq k e.0 ≡ true → g ≡ all)
+    → lookup (nat_eq k) left ≡ cond all None (lookup (nat_eq k) ns) → lookup (nat_eq k) (cond (not g) (e ∷ left) left) ≡ cond all None (lookup (nat_eq k) (e ∷ ns))
+without_by true true k e ns left true b same h = h
+without_by false true k e ns left false b same h = rw b refl
+without_by true true k e ns left false b same h = absurd (let x : true ≡ false = same b in cc)
+without_by false true k e ns left true b same h = absurd (let x : false ≡ true = same b in cc)
+without_by true false k e ns left true b same h = h
+without_by true false k e ns left false b same h = h ∙ rw b refl
+without_by false false k e ns left true b same h = rw b h
+without_by false false k e ns left false b same h = rw b h
+
+nothing : (b : Bool) (o : Option (List ℕ)) → o ≡ None → o ≡ cond b None o
+nothing true o e = e
+nothing false o e = refl
+
+pub names_at : (g : ℕ → Bool) (ns : Names) (k : ℕ) → lookup (nat_eq k) (filter (λ e. not (g e.0)) ns) ≡ cond (g k) None (lookup (nat_eq k) ns)
+names_at g [] k = nothing (g k) None refl
+names_at g (e ∷ ns) k =
+    without_by (g e.0) (nat_eq k e.0) k e ns (filter (λ x. not (g x.0)) ns) (g k) refl (λ b. ap g (sym (eqb-true k e.0 b))) (names_at g ns k)
+
 -- ---- a table and its sources
 
-record Is (probation : ℕ) (calls : List Call) (t : Table) : Type 0 where
-  distinct : Distinct t.sources
-  setting : t.probation ≡ probation
-  each : (ssrc : ℕ) → kept t ssrc ≡ alone probation ssrc calls
+abbrev pub source_in : Option Told → Option Source
+source_in k = option_map (λ x. x.source) k
 
-same_table : (probation : ℕ) (calls : List Call) (call : Call) (old new : Table) → new ≡ old → ((ssrc : ℕ) (s : Option Source) → alone_next probation ssrc s call ≡ s) → Is probation calls old → Is probation (call ∷ calls) new
+pub record Is (probation : ℕ) (calls : List Call) (t : Table) : Type 0 where
+  pub distinct : Distinct t.sources
+  pub setting : t.probation ≡ probation
+  pub each : (ssrc : ℕ) → kept t ssrc ≡ source_in (alone probation ssrc calls)
+  pub names : (ssrc : ℕ) → name_of t ssrc ≡ told_name (alone probation ssrc calls)
+
+same_table : (probation : ℕ) (calls : List Call) (call : Call) (old new : Table) → new ≡ old → ((ssrc : ℕ) → alone_next probation ssrc (alone probation ssrc calls) call ≡ alone probation ssrc calls) → Is probation calls old → Is probation (call ∷ calls) new
 same_table probation calls call old new e stays h =
-    subst (λ (t : Table). Is probation (call ∷ calls) t) (sym e) (record { distinct = h.distinct; setting = h.setting; each = λ ssrc. h.each ssrc ∙ sym (stays ssrc (alone probation ssrc calls)) })
+    subst (λ (t : Table). Is probation (call ∷ calls) t) (sym e) (record {
+      distinct = h.distinct;
+      setting = h.setting;
+      each = λ ssrc. h.each ssrc ∙ sym (ap source_in (stays ssrc));
+      names = λ ssrc. h.names ssrc ∙ sym (ap told_name (stays ssrc));
+    })
+
+-- a source that is changed where it is kept
+
+source_changed : (f : Source → Source) (b : Bool) (k : Option Told) → cond b (option_map f (source_in k)) (source_in k) ≡ source_in (cond b (option_map (told_changed f) k) k)
+source_changed f true None = refl
+source_changed f true (Some k) = refl
+source_changed f false k = refl
+
+name_stays : (f : Source → Source) (b : Bool) (k : Option Told) → told_name k ≡ told_name (cond b (option_map (told_changed f) k) k)
+name_stays f true None = refl
+name_stays f true (Some k) = refl
+name_stays f false k = refl
 
 none_is : (t : Table) (x ssrc : ℕ) (f : Source → Source) (b : Bool) → nat_eq ssrc x ≡ b → kept t x ≡ None → kept t ssrc ≡ cond b (option_map f (kept t ssrc)) (kept t ssrc)
 none_is t x ssrc f true e none =
@@ -129,73 +166,203 @@ changed_setting : (t : Table) (x : ℕ) (f : Source → Source) (o : Option Sour
 changed_setting t x f None = refl
 changed_setting t x f (Some s) = refl
 
-after_change : (probation : ℕ) (calls : List Call) (call : Call) (old new : Table) (x : ℕ) (f : Source → Source) → new ≡ changed old x f
-    → ((ssrc : ℕ) (s : Option Source) → alone_next probation ssrc s call ≡ cond (nat_eq ssrc x) (option_map f s) s) → Is probation calls old → Is probation (call ∷ calls) new
-after_change probation calls call old new x f e says h =
-    subst (λ (t : Table). Is probation (call ∷ calls) t) (sym e) (record {
-      distinct = changed_distinct old x f (kept old x) h.distinct;
-      setting = changed_setting old x f (kept old x) ∙ h.setting;
-      each = λ ssrc. changed_is old x ssrc f (kept old x) refl ∙ ap (λ (o : Option Source). cond (nat_eq ssrc x) (option_map f o) o) (h.each ssrc) ∙ sym (says ssrc (alone probation ssrc calls));
-    })
+changed_names : (t : Table) (x ssrc : ℕ) (f : Source → Source) (o : Option Source) → name_of (changed_by t x o f) ssrc ≡ name_of t ssrc
+changed_names t x ssrc f None = refl
+changed_names t x ssrc f (Some s) = refl
+
+after_change : (probation : ℕ) (calls : List Call) (call : Call) (old : Table) (x : ℕ) (f : Source → Source)
+    → ((ssrc : ℕ) (k : Option Told) → alone_next probation ssrc k call ≡ cond (nat_eq ssrc x) (option_map (told_changed f) k) k) → Is probation calls old → Is probation (call ∷ calls) (changed old x f)
+after_change probation calls call old x f says h = record {
+  distinct = changed_distinct old x f (kept old x) h.distinct;
+  setting = changed_setting old x f (kept old x) ∙ h.setting;
+  each = λ ssrc.
+      changed_is old x ssrc f (kept old x) refl ∙ ap (λ (o : Option Source). cond (nat_eq ssrc x) (option_map f o) o) (h.each ssrc)
+      ∙ source_changed f (nat_eq ssrc x) (alone probation ssrc calls) ∙ ap source_in (sym (says ssrc (alone probation ssrc calls)));
+  names = λ ssrc.
+      changed_names old x ssrc f (kept old x) ∙ h.names ssrc ∙ name_stays f (nat_eq ssrc x) (alone probation ssrc calls)
+      ∙ ap told_name (sym (says ssrc (alone probation ssrc calls)));
+}
+
+all_changed : (f : Source → Source) (k : Option Told) → option_map f (source_in k) ≡ source_in (option_map (told_changed f) k)
+all_changed f None = refl
+all_changed f (Some k) = refl
+
+all_names : (f : Source → Source) (k : Option Told) → told_name k ≡ told_name (option_map (told_changed f) k)
+all_names f None = refl
+all_names f (Some k) = refl
+
+after_blocks : (probation now : ℕ) (calls : List Call) (old : Table) → Is probation calls old → Is probation (Blocks now ∷ calls) (all_reported old)
+after_blocks probation now calls old h = record {
+  distinct = distinct_map reported old.sources h.distinct;
+  setting = h.setting;
+  each = λ ssrc. map_at reported old.sources ssrc ∙ ap (option_map reported) (h.each ssrc) ∙ all_changed reported (alone probation ssrc calls);
+  names = λ ssrc. h.names ssrc ∙ all_names reported (alone probation ssrc calls);
+}
 
 -- the source that heard a packet
-taken : (t : Table) (x : ℕ) (from : Address) (o : Option Source) (s : Source) → Takes t x from o s → s ≡ source_or from o
-taken t x from None s h = h.1
-taken t x from (Some k) s h = h.1
 
-heard_at : (es : Entries) (k x : ℕ) (v w : Source) (b : Bool) → nat_eq k x ≡ b → (k ≡ x → v ≡ w) → at k (insert_entry nat_eq es x v) ≡ cond b (Some w) (at k es)
-heard_at es k x v w true e same = put_at es k x v true e ∙ ap (λ (s : Source). Some s) (same (eqb-true k x e))
-heard_at es k x v w false e same = put_at es k x v false e
+source_heard : (from : Address) (k : Option Told) (p : Packet) → (told_heard from k p).source ≡ hear_next (source_or from (source_in k)) p
+source_heard from None p = refl
+source_heard from (Some k) p = refl
 
-after_packet : (probation : ℕ) (calls : List Call) (old new : Table) (now : ℕ) (from : Address) (view : View) (rate : Option ℕ) (quick : Bool) (heard : Heard)
-    → Hears old from view.ssrc (packet_of old now view rate quick) (Ok heard) new → Is probation calls old → Is probation (Rtp now from view rate quick (Ok heard) ∷ calls) new
-after_packet probation calls old new now from view rate quick heard hears h =
+name_heard : (from : Address) (k : Option Told) (p : Packet) (b : Bool) → told_name k ≡ told_name (cond b (Some (told_heard from k p)) k)
+name_heard from None p true = refl
+name_heard from (Some k) p true = refl
+name_heard from k p false = refl
+
+heard_at : (es : Entries) (k x : ℕ) (v : Source) (w : Told) (o : Option Told) (b : Bool) → nat_eq k x ≡ b → (k ≡ x → v ≡ w.source) → at k es ≡ source_in o → at k (insert_entry nat_eq es x v) ≡ source_in (cond b (Some w) o)
+heard_at es k x v w o true e same h = put_at es k x v true e ∙ ap (λ (s : Source). Some s) (same (eqb-true k x e))
+heard_at es k x v w o false e same h = put_at es k x v false e ∙ h
+
+packet_is : (t : Table) (probation now : ℕ) (view : View) (rate : Option ℕ) (quick : Bool) → t.probation ≡ probation → packet_of t now view rate quick ≡ packet_by probation now view rate quick
+packet_is t probation now view rate quick e = ap (λ (n : ℕ). packet_by n now view rate quick) e
+
+after_packet : (probation : ℕ) (calls : List Call) (old : Table) (now : ℕ) (from : Address) (view : View) (rate : Option ℕ) (quick : Bool) (r : Result Heard Refuse)
+    → Is probation calls old → Is probation (Rtp now from view rate quick r ∷ calls) (heard_next_by old from view.ssrc (packet_of old now view rate quick) r)
+after_packet probation calls old now from view rate quick (Err refuse) h =
+    same_table probation calls (Rtp now from view rate quick (Err refuse)) old old refl (λ ssrc. refl) h
+after_packet probation calls old now from view rate quick (Ok heard) h =
     let x = view.ssrc in
-    let s = hears.1 in
     let p = packet_of old now view rate quick in
-    let packet : p ≡ packet_by probation now view rate quick = ap (λ (n : ℕ). packet_by n now view rate quick) h.setting in
-    let source : s ≡ source_or from (kept old x) = taken old x from (kept old x) s hears.2 in
-    subst (λ (t : Table). Is probation (Rtp now from view rate quick (Ok heard) ∷ calls) t) (sym hears.4) (record {
-      distinct = distinct_put old.sources x (hear_next s p) h.distinct;
+    let q = packet_by probation now view rate quick in
+    record {
+      distinct = distinct_put old.sources x (hear_next (source_or from (kept old x)) p) h.distinct;
       setting = h.setting;
       each = λ ssrc.
-          heard_at old.sources ssrc x (hear_next s p) (hear_next (source_or from (alone probation ssrc calls)) (packet_by probation now view rate quick)) (nat_eq ssrc x) refl (λ same.
-          ap (hear_next s) packet ∙ ap (λ (k : Source). hear_next k (packet_by probation now view rate quick)) (source ∙ ap (source_or from) (ap (kept old) (sym same) ∙ h.each ssrc)))
-          ∙ ap (λ (o : Option Source). cond (nat_eq ssrc x) (Some (hear_next (source_or from (alone probation ssrc calls)) (packet_by probation now view rate quick))) o) (h.each ssrc);
-    })
+          heard_at old.sources ssrc x (hear_next (source_or from (kept old x)) p) (told_heard from (alone probation ssrc calls) q) (alone probation ssrc calls) (nat_eq ssrc x) refl
+          (λ same.
+          ap (hear_next (source_or from (kept old x))) (packet_is old probation now view rate quick h.setting)
+          ∙ ap (λ (o : Option Source). hear_next (source_or from o) q) (ap (kept old) (sym same) ∙ h.each ssrc)
+          ∙ sym (source_heard from (alone probation ssrc calls) q)) (h.each ssrc);
+      names = λ ssrc. h.names ssrc ∙ name_heard from (alone probation ssrc calls) q (nat_eq ssrc x);
+    }
 
-refused : (probation : ℕ) (calls : List Call) (old new : Table) (now : ℕ) (from : Address) (view : View) (rate : Option ℕ) (quick : Bool) (r : Refuse)
-    → Hears old from view.ssrc (packet_of old now view rate quick) (Err r) new → new ≡ old
-refused probation calls old new now from view rate quick Own h = h.1
-refused probation calls old new now from view rate quick LimitSources h = h.3
-refused probation calls old new now from view rate quick (Collision first other) h = h.6
-refused probation calls old new now from view rate quick OutOfMemory h = h
+-- a name
 
-named : (probation : ℕ) (calls : List Call) (old new : Table) (ssrc : ℕ) (text : List ℕ) (n : Named) → Names old ssrc text n new → Is probation calls old → Is probation (Sets ssrc text n ∷ calls) new
-named probation calls old new ssrc text Unknown e h = same_table probation calls (Sets ssrc text Unknown) old new e.1 (λ k s. refl) h
-named probation calls old new ssrc text Same e h = same_table probation calls (Sets ssrc text Same) old new e.2 (λ k s. refl) h
-named probation calls old new ssrc text Changed e h =
-    subst (λ (t : Table). Is probation (Sets ssrc text Changed ∷ calls) t) (sym e.2) (record { distinct = h.distinct; setting = h.setting; each = h.each })
+source_named : (text : List ℕ) (b : Bool) (k : Option Told) → source_in k ≡ source_in (cond b (option_map (told_named text) k) k)
+source_named text true None = refl
+source_named text true (Some k) = refl
+source_named text false k = refl
 
-step : (probation : ℕ) (calls : List Call) (call : Call) (old new : Table) → Leads old call new → Is probation calls old → Is probation (call ∷ calls) new
-step probation calls (Rtp now from view rate quick (Ok heard)) old new leads h = after_packet probation calls old new now from view rate quick heard leads h
-step probation calls (Rtp now from view rate quick (Err r)) old new leads h =
-    same_table probation calls (Rtp now from view rate quick (Err r)) old new (refused probation calls old new now from view rate quick r leads) (λ k s. refl) h
-step probation calls (Reports now x seconds fraction) old new leads h = after_change probation calls (Reports now x seconds fraction) old new x (λ s. report_next s now seconds fraction) leads (λ k s. refl) h
-step probation calls (Leaves x) old new leads h = after_change probation calls (Leaves x) old new x left_next leads (λ k s. refl) h
-step probation calls (Sets x text n) old new leads h = named probation calls old new x text n leads h
-step probation calls (Blocks x now) old new leads h = after_change probation calls (Blocks x now) old new x reported leads (λ k s. refl) h
-step probation calls (Expires now timeout) old new leads h =
-    let p : Source → Bool = λ s. not (is_gone s now timeout) in
-    subst (λ (t : Table). Is probation (Expires now timeout ∷ calls) t) (sym leads) (record {
-      distinct = distinct_left old.sources p h.distinct;
+unnamed : (text : List ℕ) (b : Bool) (k : Option Told) → (b ≡ true → source_in k ≡ None) → told_name k ≡ told_name (cond b (option_map (told_named text) k) k)
+unnamed text true None e = refl
+unnamed text true (Some k) e = absurd (let x : Some k.source ≡ None = e refl in cc)
+unnamed text false k e = refl
+
+renamed : (text : List ℕ) (b : Bool) (k : Option Told) → (b ≡ true → told_name k ≡ Some text) → told_name k ≡ told_name (cond b (option_map (told_named text) k) k)
+renamed text true None e = refl
+renamed text true (Some k) e = e refl
+renamed text false k e = refl
+
+put_name : (ns : Names) (k x : ℕ) (text : List ℕ) (o : Option Told) (s : Source) (b : Bool) → nat_eq k x ≡ b → (k ≡ x → source_in o ≡ Some s) → lookup (nat_eq k) ns ≡ told_name o
+    → lookup (nat_eq k) (insert_entry nat_eq ns x text) ≡ told_name (cond b (option_map (told_named text) o) o)
+put_name ns k x text None s true e there h = absurd (let n : None ≡ Some s = there (eqb-true k x e) in cc)
+put_name ns k x text (Some w) s true e there h = put_at ns k x text true e
+put_name ns k x text o s false e there h = put_at ns k x text false e ∙ h
+
+after_name : (probation : ℕ) (calls : List Call) (old : Table) (x : ℕ) (text : List ℕ) (answer : Named) (o : Option Source) (n : Option (List ℕ)) (b : Bool)
+    → kept old x ≡ o → name_of old x ≡ n → is_name text n ≡ b → Is probation calls old → Is probation (Sets x text answer ∷ calls) (name_next_by old x text (named_by o n text))
+after_name probation calls old x text answer None n b e f g h = record {
+  distinct = h.distinct;
+  setting = h.setting;
+  each = λ ssrc. h.each ssrc ∙ source_named text (nat_eq ssrc x) (alone probation ssrc calls);
+  names = λ ssrc.
+      h.names ssrc
+      ∙ unnamed text (nat_eq ssrc x) (alone probation ssrc calls) (λ same. sym (h.each ssrc) ∙ ap (kept old) (eqb-true ssrc x same) ∙ e);
+}
+after_name probation calls old x text answer (Some s) n true e f g h =
+    let is : Is probation (Sets x text answer ∷ calls) old = record {
+      distinct = h.distinct;
       setting = h.setting;
-      each = λ ssrc. left_at old.sources ssrc p h.distinct ∙ ap (only_if p) (h.each ssrc);
-    })
+      each = λ ssrc. h.each ssrc ∙ source_named text (nat_eq ssrc x) (alone probation ssrc calls);
+      names = λ ssrc.
+          h.names ssrc
+          ∙ renamed text (nat_eq ssrc x) (alone probation ssrc calls)
+          (λ same. sym (h.names ssrc) ∙ ap (name_of old) (eqb-true ssrc x same) ∙ f ∙ is_the_name n text g);
+    } in
+    subst (λ (c : Bool). Is probation (Sets x text answer ∷ calls) (name_next_by old x text (if c then Same else Changed))) (sym g) is
+after_name probation calls old x text answer (Some s) n false e f g h =
+    let is : Is probation (Sets x text answer ∷ calls) (name_next_by old x text Changed) = record {
+      distinct = h.distinct;
+      setting = h.setting;
+      each = λ ssrc. h.each ssrc ∙ source_named text (nat_eq ssrc x) (alone probation ssrc calls);
+      names = λ ssrc.
+          put_name old.names ssrc x text (alone probation ssrc calls) s (nat_eq ssrc x) refl
+          (λ same. sym (h.each ssrc) ∙ ap (kept old) same ∙ e) (h.names ssrc);
+    } in
+    subst (λ (c : Bool). Is probation (Sets x text answer ∷ calls) (name_next_by old x text (if c then Same else Changed))) (sym g) is
 
-is_alone : (own probation : ℕ) (calls : List Call) (t : Table) → StandsFor own probation calls t → Is probation calls t
-is_alone own probation [] t e = subst (λ (x : Table). Is probation [] x) (sym e) (record { distinct = tt; setting = refl; each = λ ssrc. refl })
-is_alone own probation (call ∷ before) t h = step probation before call h.0 t h.2 (is_alone own probation before h.0 h.1)
+-- sources that are removed
+
+source_left : (p : Source → Bool) (k : Option Told) → only_if p (source_in k) ≡ source_in (only_if (λ x. p x.source) k)
+source_left p None = refl
+source_left p (Some k) = by (p k.source) refl
+  where
+    by : (b : Bool) → p k.source ≡ b → cond b (Some k.source) None ≡ source_in (cond b (Some k) None)
+    by true e = refl
+    by false e = refl
+
+name_left : (p : Source → Bool) (k : Option Told) → cond (has p (source_in k)) None (told_name k) ≡ told_name (only_if (λ x. not (p x.source)) k)
+name_left p None = refl
+name_left p (Some k) = by (p k.source)
+  where
+    by : (b : Bool) → cond b None k.name ≡ told_name (cond (not b) (Some k) None)
+    by true = refl
+    by false = refl
+
+after_expiry : (probation : ℕ) (calls : List Call) (old : Table) (now timeout : ℕ) → Is probation calls old → Is probation (Expires now timeout ∷ calls) (expired old now timeout)
+after_expiry probation calls old now timeout h =
+    let p : Source → Bool = λ s. is_gone s now timeout in
+    let q : Source → Bool = λ s. not (is_gone s now timeout) in
+    record {
+      distinct = distinct_left old.sources q h.distinct;
+      setting = h.setting;
+      each = λ ssrc. left_at old.sources ssrc q h.distinct ∙ ap (only_if q) (h.each ssrc) ∙ source_left q (alone probation ssrc calls);
+      names = λ ssrc.
+          names_at (λ x. list_any (nat_eq x) (gone old now timeout)) old.names ssrc
+          ∙ ap (λ (b : Bool). cond b None (name_of old ssrc)) (gone_at p old.sources ssrc h.distinct)
+          ∙ ap (λ (o : Option Source). cond (has p o) None (name_of old ssrc)) (h.each ssrc)
+          ∙ ap (λ (n : Option (List ℕ)). cond (has p (source_in (alone probation ssrc calls))) None n) (h.names ssrc)
+          ∙ name_left p (alone probation ssrc calls);
+    }
+
+-- ---- the whole
+
+step : (own probation : ℕ) (calls : List Call) (call : Call) → IsAnswered (table own probation calls) call → Is probation calls (table own probation calls) → Is probation (call ∷ calls) (table own probation (call ∷ calls))
+step own probation calls (Rtp now from view rate quick answer) says h =
+    subst (λ (r : Result Heard Refuse). Is probation (Rtp now from view rate quick answer ∷ calls) (heard_next_by (table own probation calls) from view.ssrc (packet_of (table own probation calls) now view rate quick) r))
+    says (after_packet probation calls (table own probation calls) now from view rate quick answer h)
+step own probation calls (Reports now x seconds fraction) says h =
+    after_change probation calls (Reports now x seconds fraction) (table own probation calls) x (λ s. report_next s now seconds fraction) (λ k s. refl) h
+step own probation calls (Leaves x) says h = after_change probation calls (Leaves x) (table own probation calls) x left_next (λ k s. refl) h
+step own probation calls (Sets x text answer) says h =
+    after_name probation calls (table own probation calls) x text answer (kept (table own probation calls) x) (name_of (table own probation calls) x) (is_name text (name_of (table own probation calls) x)) refl refl refl h
+step own probation calls (Block x now) says h = after_change probation calls (Block x now) (table own probation calls) x reported (λ k s. refl) h
+step own probation calls (Blocks now) says h = after_blocks probation now calls (table own probation calls) h
+step own probation calls (Expires now timeout) says h = after_expiry probation calls (table own probation calls) now timeout h
+
+pub is_alone : (own probation : ℕ) (calls : List Call) → AreAnswered own probation calls → Is probation calls (table own probation calls)
+is_alone own probation [] h = record { distinct = tt; setting = refl; each = λ ssrc. refl; names = λ ssrc. refl }
+is_alone own probation (call ∷ before) h = step own probation before call h.0 (is_alone own probation before h.1)
+
+told_is : (s : Option Source) (n : Option (List ℕ)) (k : Option Told) → s ≡ source_in k → n ≡ told_name k → option_map (λ x. told_of x n) s ≡ k
+told_is s n None e f = ap (option_map (λ x. told_of x n)) e
+told_is s n (Some k) e f = ap (option_map (λ x. told_of x n)) e ∙ ap (λ (m : Option (List ℕ)). Some (told_of k.source m)) f
+
+isolated_table : (own probation : ℕ) (calls : List Call) → AreAnswered own probation calls → (ssrc : ℕ) → told (table own probation calls) ssrc ≡ alone probation ssrc calls
+isolated_table own probation calls h ssrc =
+    let is = is_alone own probation calls h in
+    told_is (kept (table own probation calls) ssrc) (name_of (table own probation calls) ssrc) (alone probation ssrc calls) (is.each ssrc) (is.names ssrc)
 
 pub isolation : IsIsolated
-isolation = λ own probation calls t h ssrc. (is_alone own probation calls t h).each ssrc
+isolation t own probation calls h ssrc = ap (λ (x : Table). told x ssrc) h.0 ∙ isolated_table own probation calls h.1 ssrc
+
+nameless : (k : Option Told) → source_in k ≡ None → told_name k ≡ None
+nameless None e = refl
+nameless (Some k) e = absurd (let x : Some k.source ≡ None = e in cc)
+
+pub named_if_kept : IsNamedIfKept
+named_if_kept t own probation calls h ssrc e =
+    let is = is_alone own probation calls h.1 in
+    ap (λ (x : Table). name_of x ssrc) h.0 ∙ is.names ssrc
+    ∙ nameless (alone probation ssrc calls) (sym (is.each ssrc) ∙ ap (λ (x : Table). kept x ssrc) (sym h.0) ∙ e)

@@ -3,3 +3,5 @@ pub mod Sources
 pub mod Table
 pub mod History
 pub mod Probation
+pub mod Answers
+pub mod Validity

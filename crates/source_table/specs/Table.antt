@@ -1,5 +1,5 @@
 -- A table of sources in order of first sight, and what each call leaves of it.
-use Rattle.std.specs.Prelude.{◌≡◌, ◌<◌, ◌≤◌, ℕ, ◌+◌, not, nat_eq, if◌then◌else◌, Bool, List, [], length, map, filter, Option, Some, None, Result, Ok, Err, max}
+use Rattle.std.specs.Prelude.{◌≡◌, ◌<◌, ◌≤◌, ℕ, ◌+◌, not, nat_eq, if◌then◌else◌, Bool, List, [], length, map, filter, filter_map, Option, Some, None, Result, Ok, Err, max}
 use Rattle.std.specs.Map.{lookup}
 use Rattle.std.specs.List.{list_any}
 use Rattle.indexmap.specs.IndexMap.{insert_entry}
@@ -13,7 +13,7 @@ use Rattle.source_table.specs.declared.answers.Refuse.{Refuse}
 use Rattle.source_table.specs.declared.answers.Refuse.TheVariants.{Own, LimitSources, Collision, OutOfMemory}
 use Rattle.source_table.specs.declared.answers.Named.{Named}
 use Rattle.source_table.specs.declared.answers.Named.TheVariants.{Unknown, Same, Changed}
-use Rattle.source_table.specs.Sources.{fresh, hear_next, hear_answer, is_gone, block_of}
+use Rattle.source_table.specs.Sources.{fresh, hear_next, hear_answer, is_gone, block_of, reported}
 
 -- what a table keeps: its own SSRC, the setting of probation, how many packets it heard, the sources and their names
 pub record Table : Type 0 where
@@ -32,6 +32,10 @@ kept t ssrc = lookup (nat_eq ssrc) t.sources
 
 abbrev pub name_of : Table → ℕ → Option (List ℕ)
 name_of t ssrc = lookup (nat_eq ssrc) t.names
+
+-- A source that is not kept has no name.
+abbrev pub IsNamed : Table → Type 0
+IsNamed t = (ssrc : ℕ) → kept t ssrc ≡ None → name_of t ssrc ≡ None
 
 -- how many consecutive packets make a source valid
 abbrev pub needed : Table → Bool → ℕ
@@ -91,3 +95,11 @@ expired t now timeout = record t {
 abbrev pub block_in : Option Source → ℕ → ℕ → Option ReportBlock
 block_in None ssrc now = None
 block_in (Some s) ssrc now = block_of s ssrc now
+
+-- the blocks of all sources that have one, in table order
+abbrev pub blocks : Table → ℕ → List ReportBlock
+blocks t now = filter_map (λ e. block_of e.1 e.0 now) t.sources
+
+-- the table once they were made
+abbrev pub all_reported : Table → Table
+all_reported t = record t { sources = map (λ e. (e.0, reported e.1)) t.sources }

@@ -7,7 +7,7 @@
 mod answers;
 mod counts;
 mod jitter;
-mod laws;
+pub mod laws;
 mod maps;
 mod run;
 mod source;
@@ -16,7 +16,6 @@ mod table;
 pub use answers::{Named, Refuse};
 pub use counts::Counts;
 pub use jitter::Jitter;
-pub use laws::{counts_consecutive, goes_on, isolated};
 pub use run::Run;
 pub use source::{Heard, Packet, Report, Source};
 pub use table::SourceTable;

@@ -1,12 +1,13 @@
 //! The maps of a table, by their entries in order.
-ghost use Rattle.std.specs.Prelude.{◌≡◌, ◌↔◌, ◌<◌, nat_eq, not, map, filter, length, slice_get, IsSome, IsTrue, IfOk, OnErr, OnOk, Some};
+ghost use Rattle.std.specs.Prelude.{◌≡◌, ◌↔◌, ◌<◌, nat_eq, not, map, filter, filter_map, length, slice_get, IsSome, IsTrue, IfOk, OnErr, OnOk, Some};
 ghost use Rattle.std.specs.Map.{lookup};
 ghost use Rattle.std.specs.List.{list_any};
 ghost use Rattle.indexmap.specs.IndexMap.{insert_entry};
-ghost use Rattle.source_table.specs.Sources.{is_gone};
+ghost use Rattle.source_table.specs.Sources.{is_gone, block_of, reported};
 
 use crate::source::Source;
 use indexmap::IndexMap;
+use rtcp_wire::ReportBlock;
 use rtp_units::{Address, Blob, OutOfMemory};
 use std::alloc::Global;
 
@@ -99,4 +100,30 @@ pub(crate) fn keep_names(names: &mut IndexMap<u32, Blob>, gone: &[u32])
     ensures { names.new.entries ≡ filter (λ e. not (list_any (nat_eq e.0) gone.now)) names.old.entries }
 {
     names.retain(|ssrc, _name| !gone.contains(ssrc));
+}
+
+/// The blocks of all sources that have one, in order.
+pub(crate) fn blocks_of(
+    alloc: Global,
+    sources: &IndexMap<u32, Source>,
+    now: u64,
+) -> Result<Vec<ReportBlock>, OutOfMemory>
+    ensures { IfOk result (λ blocks. blocks.items ≡ filter_map (λ e. block_of e.1 e.0 now) sources.now.entries) }
+{
+    Ok(
+        sources
+            .iter()
+            .filter_map(|(ssrc, source)| source.block(*ssrc, now))
+            .collect(alloc)?,
+    )
+}
+
+/// Begins a new interval of each source that had a block.
+pub(crate) fn begin_intervals(sources: &mut IndexMap<u32, Source>)
+    ensures { sources.new.entries ≡ map (λ e. (e.0, reported e.1)) sources.old.entries }
+{
+    sources.retain(|_ssrc, source| {
+        *source = source.after_block();
+        true
+    });
 }

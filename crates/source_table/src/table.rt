@@ -1,11 +1,14 @@
 //! The table of a session.
 ghost use Rattle.std.specs.Prelude.{◌≡◌, ◌<◌, ◌≤◌, ◌^◌, ℕ, nat_eq, length, is_some, IfOk, OnErr, option_map};
 ghost use Rattle.source_table.specs.Sources.{report_next, left_next, reported};
-ghost use Rattle.source_table.specs.Table.{Table, empty, kept, name_of, packet_of, changed, Hears, Names, gone, expired, block_in};
+ghost use Rattle.source_table.specs.Table.{Table, empty, kept, name_of, packet_of, changed, Hears, Names, gone, expired, block_in, blocks, all_reported};
+ghost use Rattle.rtcp_wire.specs.Written.{LossFits};
+ghost use Rattle.std.specs.List.{AllByRecursion};
 
 use crate::answers::{Named, Refuse};
 use crate::maps::{
-    gone_of, has_name, keep_names, keep_sources, put, put_name, replace, same_address,
+    begin_intervals, blocks_of, gone_of, has_name, keep_names, keep_sources, put, put_name,
+    replace, same_address,
 };
 use crate::source::{Heard, Packet, Source};
 use indexmap::IndexMap;
@@ -165,6 +168,19 @@ impl SourceTable {
                 block
             }
         }
+    }
+
+    /// The blocks of all sources that are valid and spoke since their last block, in table order. Their next
+    /// blocks begin new intervals. After a refusal the table is as before.
+    pub fn blocks(&mut self, alloc: Global, now: u64) -> Result<Vec<ReportBlock>, OutOfMemory>
+        ensures ok { IfOk result (λ list. (list.items ≡ blocks self.old now) × (self.new ≡ all_reported self.old)) }
+        // A report block has 24 bits for the loss.
+        ensures fits { IfOk result (λ list. AllByRecursion LossFits list.items) }
+        ensures err { OnErr result (self.new ≡ self.old) }
+    {
+        let blocks = blocks_of(alloc, &self.sources, now)?;
+        begin_intervals(&mut self.sources);
+        Ok(blocks)
     }
 
     /// Sets the name of a kept source, a text of at most 255 bytes. After a refusal the table is as before.
