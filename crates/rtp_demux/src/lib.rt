@@ -5,11 +5,10 @@
 #![tactic(auto)]
 
 mod lanes;
-mod laws;
+pub mod laws;
 mod types;
 
 pub use lanes::{LaneOf, SsrcDemux};
-pub use laws::{numbered_once, stays_numbered};
 pub use types::{PtDemux, PtRoute, Route};
 
 #[cfg(test)]
