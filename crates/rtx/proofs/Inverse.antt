@@ -1,5 +1,5 @@
 -- Restoring gives back what was sent.
-use Rattle.std.proofs.Common.{◌≡◌, ◌<◌, ◌≤◌, ◌^◌, ℕ, zero, suc, Bool, true, false, cond, nat_eq, List, [], ◌∷◌, length, take, Option, Some, None, Ok, refl, sym, ap, subst, ◌∙◌, arith}
+use Rattle.std.proofs.Common.{◌≡◌, ◌<◌, ◌≤◌, ◌^◌, ℕ, zero, suc, Bool, true, false, cond, nat_eq, List, [], ◌∷◌, ◌++◌, length, take, Option, Some, None, Ok, refl, sym, ap, subst, ◌∙◌, arith}
 use Rattle.std.specs.Prelude.{find, filter, option_map}
 use Rattle.std.specs.Option.{option_or, option_and_then}
 use Rattle.std.proofs.lemmas.Bool.{eq-eqb, eqb-true}
@@ -9,7 +9,7 @@ use Rattle.rtp_units.specs.declared.shared.RtxLine.{RtxLine}
 use Rattle.rtp_units.specs.declared.shared.Fid.{Fid}
 use Rattle.rtp_wire.specs.Network.{number16}
 use Rattle.rtp_wire.specs.Packet.{Packet}
-use Rattle.rtp_wire.proofs.Spelling.{number16-big_bytes}
+use Rattle.byteorder.specs.Endian.{big_bytes}
 use Rattle.rtx.specs.declared.outlet.Outlet.{Outlet}
 use Rattle.rtx.specs.Pairs.{carries, repeats, has_retransmission, has_original, original_of, retransmission_of}
 use Rattle.rtx.specs.Requests.{associated}
@@ -19,6 +19,11 @@ use Rattle.rtx.specs.Answering.{Call, Remembers, Answers, packets_of, is_remembe
 use Rattle.rtx.specs.Inverse.{IsInverse}
 use Rattle.rtx.proofs.Found.{known}
 use Rattle.rtx.proofs.Seen.{both, same_stream}
+
+-- ---- a number in front
+
+number_in_front : (n : ℕ) (rest : List ℕ) → n < 2 ^ 16 → number16 (big_bytes 2 n ++ rest) 0 ≡ n
+number_in_front n rest lt = omega arith
 
 -- ---- the first that passes
 
@@ -194,7 +199,7 @@ inverse = λ s calls session ssrc seq p o number sent bytes r small e one lines 
     let whole : 2 ≤ length q.payload = omega arith in
     let is : found r o.session q ≡ Ok (original l q ssrc false) = known r o.session q l ssrc whole line stream in
     let own_number : p.seq < 2 ^ 16 = subst (λ (n : ℕ). n < 2 ^ 16) (sym own.1) small in
-    let number_is : number16 q.payload 0 ≡ p.seq = number16-big_bytes p.seq p.payload own_number in (
+    let number_is : number16 q.payload 0 ≡ p.seq = number_in_front p.seq p.payload own_number in (
       original l q ssrc false,
       is,
       o_session,

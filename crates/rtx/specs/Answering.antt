@@ -1,5 +1,5 @@
 -- What a history stands for: the packets that were sent and the requests that were answered, the latest first.
-use Rattle.std.specs.Prelude.{◌≡◌, ◌<◌, ◌≤◌, ◌⊎◌, ℕ, ◌+◌, ◌%◌, if◌then◌else◌, Bool, true, false, List, [], ◌∷◌, ◌++◌, length, take, Option, Some, None, IsSome, Result, Ok, Err, option_map, unwrap_or}
+use Rattle.std.specs.Prelude.{◌≡◌, ◌<◌, ◌≤◌, ◌⊎◌, ℕ, ◌+◌, ◌%◌, ◌||◌, nat_lt, if◌then◌else◌, Bool, true, false, List, [], ◌∷◌, ◌++◌, length, take, Option, Some, None, IsSome, Result, Ok, Err, option_map, unwrap_or}
 use Rattle.std.specs.Option.{option_and_then}
 use Rattle.std.specs.List.{list_any}
 use Rattle.std.specs.Map.{lookup}
@@ -8,7 +8,7 @@ use Rattle.rtp_units.specs.declared.memory.OutOfMemory.{OutOfMemory}
 use Rattle.rtp_wire.specs.Packet.{Packet, IsPacket}
 use Rattle.rtx.specs.declared.outlet.Outlet.{Outlet}
 use Rattle.rtx.specs.declared.answers.Retransmission.{Retransmission}
-use Rattle.rtx.specs.Sending.{Stream, is_stream, Setting, Sending, latest_in, outlet_of, retransmission_packet}
+use Rattle.rtx.specs.Sending.{Stream, is_stream, Setting, Sending, latest_in, outlet_of, retransmission_packet, retransmission_spelling}
 
 -- a packet of a session that was to be remembered, or a request for a number of a stream of a session
 pub data Call : Type 0 where
@@ -87,11 +87,13 @@ abbrev pub IsRemembered : List Call → Stream → Bool → Type 0
 IsRemembered calls stream true = (is_remembered calls stream ≡ true) ⊎ (length (streams_of calls) < 64)
 IsRemembered calls stream false = (is_remembered calls stream ≡ false) × (64 ≤ length (streams_of calls))
 
--- What a request is answered with: a retransmission of the packet that is sought, under its stream's next number.
+-- What a request is answered with: a retransmission of the packet that is sought, under its
+-- stream's next number.
 abbrev pub IsAnswer : Setting → List Call → ℕ → ℕ → ℕ → Result (Option Retransmission) OutOfMemory → Type 0
 IsAnswer s calls session ssrc seq (Ok None) = sought s calls session ssrc seq ≡ None
 IsAnswer s calls session ssrc seq (Ok (Some x)) =
     (p : Packet) × (o : Outlet) × (sought s calls session ssrc seq ≡ Some (p, o)) × (x.session ≡ o.session)
+    × (x.bytes ≡ retransmission_spelling o (number_of s calls (o.session, o.ssrc)) p)
     × IsPacket (retransmission_packet o (number_of s calls (o.session, o.ssrc)) p x.bytes)
 IsAnswer s calls session ssrc seq (Err e) = IsSome (sought s calls session ssrc seq)
 
@@ -99,3 +101,32 @@ IsAnswer s calls session ssrc seq (Err e) = IsSome (sought s calls session ssrc 
 abbrev pub calls_after : {X : Type 0} → Call → List Call → Result X OutOfMemory → List Call
 calls_after call calls (Ok x) = call ∷ calls
 calls_after call calls (Err e) = calls
+
+-- ---- the same as functions
+
+-- Its stream is remembered, or there is room for one more.
+abbrev pub remembers : List Call → Stream → Bool
+remembers calls stream = is_remembered calls stream || nat_lt (length (streams_of calls)) 64
+
+abbrev pub answered_by : Setting → List Call → Option (Packet × Outlet) → Option Retransmission
+answered_by s calls None = None
+answered_by s calls (Some (p, o)) = Some (record {
+  session = o.session;
+  bytes = retransmission_spelling o (number_of s calls (o.session, o.ssrc)) p;
+})
+
+-- the retransmission that a request is answered with
+abbrev pub answered : Setting → List Call → ℕ → ℕ → ℕ → Option Retransmission
+answered s calls session ssrc seq = answered_by s calls (sought s calls session ssrc seq)
+
+-- Remembering has one answer.
+abbrev pub IsOneRemembering : Type 0
+IsOneRemembering =
+    (calls : List Call) (stream : Stream) (answer : Bool) → IsRemembered calls stream answer
+    → answer ≡ remembers calls stream
+
+-- A request has one answer but want of memory.
+abbrev pub IsOneAnswer : Type 0
+IsOneAnswer =
+    (s : Setting) (calls : List Call) (session ssrc seq : ℕ) (answer : Option Retransmission)
+    → IsAnswer s calls session ssrc seq (Ok answer) → answer ≡ answered s calls session ssrc seq

@@ -1,6 +1,8 @@
 -- What a receiver stands for: the requests that were noted and the packets that came, the latest first.
-use Rattle.std.specs.Prelude.{◌≡◌, ℕ, List, [], ◌∷◌, ◌++◌, Result, Ok, Err}
+use Rattle.std.specs.Prelude.{◌≡◌, ℕ, Bool, true, false, List, [], ◌∷◌, ◌++◌, Result, Ok, Err}
 use Rattle.circular_buffer.specs.Buffer.{keep_last}
+use Rattle.rtp_units.specs.declared.shared.RtxLine.{RtxLine}
+use Rattle.rtp_units.specs.declared.shared.Fid.{Fid}
 use Rattle.rtp_wire.specs.Packet.{Packet}
 use Rattle.rtx.specs.declared.requests.Request.{Request}
 use Rattle.rtx.specs.declared.requests.Association.{Association}
@@ -8,7 +10,7 @@ use Rattle.rtx.specs.declared.receiver.Original.{Original}
 use Rattle.rtx.specs.declared.answers.Restored.{Restored}
 use Rattle.rtx.specs.declared.answers.RtxFault.{RtxFault}
 use Rattle.rtx.specs.declared.answers.RtxFault.TheVariants.{Short, UnknownPt, UnknownSsrc, Ambiguous, OutOfMemory}
-use Rattle.rtx.specs.Restoring.{Setting, Receiving, receiving, found, associations_after}
+use Rattle.rtx.specs.Restoring.{Setting, setting, Receiving, receiving, found, associations_after}
 
 -- a request that was noted, or a packet of a session that was to be restored
 pub data Call : Type 0 where
@@ -49,3 +51,20 @@ calls_after call calls (Err UnknownPt) = call ∷ calls
 calls_after call calls (Err UnknownSsrc) = call ∷ calls
 calls_after call calls (Err (Ambiguous first second)) = call ∷ calls
 calls_after call calls (Err OutOfMemory) = calls
+
+-- ---- where no request was noted
+
+-- a receiver with this map after these calls
+abbrev pub after_calls : List RtxLine → List Fid → Bool → List Call → Receiving
+after_calls lines fids by_request calls =
+    receiving (setting lines fids by_request) (requests_of calls)
+    (associations_of (setting lines fids by_request) calls)
+
+-- Where no request was noted, a receiver that finds streams by request finds what one finds that
+-- doesn't.
+abbrev pub IsUnasked : Type 0
+IsUnasked =
+    (lines : List RtxLine) (fids : List Fid) (calls : List Call) (session : ℕ) (p : Packet)
+    → noted calls ≡ []
+    → found (after_calls lines fids false calls) session p
+    ≡ found (after_calls lines fids true calls) session p

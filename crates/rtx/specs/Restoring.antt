@@ -1,10 +1,11 @@
 -- The packet that a retransmission carries (RFC 4588, section 4), by what a receiver keeps.
-use Rattle.std.specs.Prelude.{◌≡◌, ℕ, nat_eq, nat_lt, if◌then◌else◌, Bool, true, false, List, length, drop, find, Option, Some, None, Result, Ok, Err, IsOk}
+use Rattle.std.specs.Prelude.{◌≡◌, ℕ, nat_eq, nat_lt, if◌then◌else◌, Bool, true, false, List, [], length, drop, find, Option, Some, None, Result, Ok, Err, IsOk}
 use Rattle.std.specs.Option.{option_or}
 use Rattle.rtp_units.specs.declared.shared.RtxLine.{RtxLine}
 use Rattle.rtp_units.specs.declared.shared.Fid.{Fid}
 use Rattle.rtp_wire.specs.Network.{number16}
 use Rattle.rtp_wire.specs.Packet.{Packet, IsPacket}
+use Rattle.rtp_wire.specs.Written.{spelling}
 use Rattle.rtx.specs.declared.map.Map.{Map}
 use Rattle.rtx.specs.declared.requests.Request.{Request}
 use Rattle.rtx.specs.declared.requests.Association.{Association}
@@ -93,10 +94,19 @@ restored_packet o p bytes = record {
   bytes = bytes;
 }
 
+-- its bytes
+abbrev pub restored_spelling : Original → Packet → List ℕ
+restored_spelling o p = spelling (restored_packet o p [])
+
+-- the packet that is carried, with its bytes
+abbrev pub restored : Original → Packet → Packet
+restored o p = restored_packet o p (restored_spelling o p)
+
 pub record IsRestored (o : Original) (p : Packet) (x : Restored) : Type 0 where
   pub session : x.session ≡ o.session
   pub ssrc : x.ssrc ≡ o.ssrc
   pub seq : x.seq ≡ o.seq
+  pub bytes : x.bytes ≡ restored_spelling o p
   pub packet : IsPacket (restored_packet o p x.bytes)
 
 -- A stream that was found by a request is associated.
@@ -114,3 +124,38 @@ Restores r session p (Err UnknownPt) new = (found r session p ≡ Err UnknownPt)
 Restores r session p (Err UnknownSsrc) new = (found r session p ≡ Err UnknownSsrc) × (new ≡ r)
 Restores r session p (Err (Ambiguous first second)) new = (found r session p ≡ Err (Ambiguous first second)) × (new ≡ r)
 Restores r session p (Err OutOfMemory) new = IsOk (found r session p) × (new ≡ r)
+
+-- ---- the same as functions
+
+abbrev pub restored_of : Packet → Result Original RtxFault → Result Restored RtxFault
+restored_of p (Ok o) =
+    Ok (record { session = o.session; ssrc = o.ssrc; seq = o.seq; bytes = restored_spelling o p })
+restored_of p (Err fault) = Err fault
+
+-- what restoring a packet of a session answers
+abbrev pub restoring : Receiving → ℕ → Packet → Result Restored RtxFault
+restoring r session p = restored_of p (found r session p)
+
+abbrev pub restored_next_by : Receiving → ℕ → Packet → Result Original RtxFault → Receiving
+restored_next_by r session p (Ok o) = associated_with r session p o
+restored_next_by r session p (Err fault) = r
+
+-- the receiver after it
+abbrev pub restored_next : Receiving → ℕ → Packet → Receiving
+restored_next r session p = restored_next_by r session p (found r session p)
+
+-- an answer but want of memory
+abbrev pub IsAnswer : Result Restored RtxFault → Type 0
+IsAnswer (Ok x) = Unit {0}
+IsAnswer (Err Short) = Unit {0}
+IsAnswer (Err UnknownPt) = Unit {0}
+IsAnswer (Err UnknownSsrc) = Unit {0}
+IsAnswer (Err (Ambiguous first second)) = Unit {0}
+IsAnswer (Err OutOfMemory) = ⊥
+
+-- A receiver that was not refused memory answered and became what the functions say.
+abbrev pub IsOneRestoring : Type 0
+IsOneRestoring =
+    (r new : Receiving) (session : ℕ) (p : Packet) (answer : Result Restored RtxFault)
+    → Restores r session p answer new → IsAnswer answer
+    → (answer ≡ restoring r session p) × (new ≡ restored_next r session p)

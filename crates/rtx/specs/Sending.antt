@@ -1,10 +1,11 @@
 -- What a history keeps, and the retransmission of a packet (RFC 4588, section 4).
-use Rattle.std.specs.Prelude.{ℕ, ◌&&◌, nat_eq, if◌then◌else◌, Bool, List, ◌∷◌, ◌++◌, find, take, Option, Some, None, option_map}
+use Rattle.std.specs.Prelude.{ℕ, ◌&&◌, nat_eq, if◌then◌else◌, Bool, List, [], ◌∷◌, ◌++◌, find, take, Option, Some, None, option_map}
 use Rattle.circular_buffer.specs.Buffer.{Buffer, buffer}
 use Rattle.byteorder.specs.Endian.{big_bytes}
 use Rattle.rtp_units.specs.declared.shared.RtxLine.{RtxLine}
 use Rattle.rtp_units.specs.declared.shared.Fid.{Fid}
 use Rattle.rtp_wire.specs.Packet.{Packet}
+use Rattle.rtp_wire.specs.Written.{spelling}
 use Rattle.rtx.specs.declared.map.Map.{Map}
 use Rattle.rtx.specs.declared.outlet.Outlet.{Outlet}
 use Rattle.rtx.specs.Pairs.{repeats, retransmission_of}
@@ -75,3 +76,7 @@ retransmission_packet o number p bytes = record {
   padding = 0;
   bytes = bytes;
 }
+
+-- its bytes
+abbrev pub retransmission_spelling : Outlet → ℕ → Packet → List ℕ
+retransmission_spelling o number p = spelling (retransmission_packet o number p [])

@@ -6,7 +6,7 @@
 
 mod answers;
 mod history;
-mod laws;
+pub mod laws;
 mod map;
 mod outlet;
 mod receiver;
@@ -16,7 +16,6 @@ mod streams;
 
 pub use answers::{Restored, Retransmission, RtxFault};
 pub use history::History;
-pub use laws::restoring_inverts_answering;
 pub use map::Map;
 #[doc(hidden)]
 pub use outlet::Outlet;

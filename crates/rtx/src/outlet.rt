@@ -2,7 +2,7 @@
 ghost use Rattle.std.specs.Prelude.{◌≡◌, ◌<◌, IfOk, IfSome};
 ghost use Rattle.rtp_wire.specs.Packet.{IsPacket};
 ghost use Rattle.rtx.specs.Pairs.{AreTypes};
-ghost use Rattle.rtx.specs.Sending.{outlet, outlet_of, rtx_ssrc_of, retransmission_packet};
+ghost use Rattle.rtx.specs.Sending.{outlet, outlet_of, rtx_ssrc_of, retransmission_packet, retransmission_spelling};
 
 use crate::map::{Map, line_for, retransmission_ssrc};
 use rtp_units::{Blob, Fid, OutOfMemory, RtxLine};
@@ -56,7 +56,9 @@ pub(crate) fn retransmission_bytes(
     packet: &RtpView<'_>,
 ) -> Result<Blob, OutOfMemory>
     requires { outlet.now.pt < 128 }
-    ensures { IfOk result (λ bytes. IsPacket (retransmission_packet outlet.now number packet.now bytes)) }
+    ensures value { IfOk result (λ bytes. bytes ≡ retransmission_spelling outlet.now number packet.now) }
+    ensures packet { IfOk result (λ bytes.
+        IsPacket (retransmission_packet outlet.now number packet.now bytes)) }
 {
     let mut payload = Vec::new(alloc);
     push_u16(&mut payload, packet.seq())?;

@@ -4,7 +4,7 @@ ghost use Rattle.circular_buffer.specs.Buffer.{keep_last};
 ghost use Rattle.rtp_wire.specs.Packet.{IsPacket};
 ghost use Rattle.rtx.specs.Pairs.{AreTypes};
 ghost use Rattle.rtx.specs.Requests.{request};
-ghost use Rattle.rtx.specs.Restoring.{Setting, setting_of, receiving, found, stream_of, with_requests, restored_packet, Restores};
+ghost use Rattle.rtx.specs.Restoring.{Setting, setting_of, receiving, found, stream_of, with_requests, restored_packet, restored_spelling, Restores};
 ghost use Rattle.rtx.specs.Restored.{Call, Notes, Restoring, StandsFor, calls_after};
 
 use crate::answers::{Restored, RtxFault};
@@ -180,7 +180,8 @@ fn restored_bytes(
 ) -> Result<Blob, OutOfMemory>
     requires whole { 2 ≤ length view.now.payload }
     requires apt { original.now.apt < 128 }
-    ensures { IfOk result (λ bytes. IsPacket (restored_packet original.now view.now bytes)) }
+    ensures value { IfOk result (λ bytes. bytes ≡ restored_spelling original.now view.now) }
+    ensures packet { IfOk result (λ bytes. IsPacket (restored_packet original.now view.now bytes)) }
 {
     let payload = view.payload();
     write(

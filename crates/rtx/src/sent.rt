@@ -2,6 +2,7 @@
 ghost use Rattle.std.specs.Prelude.{◌≡◌, IfOk};
 
 use rtp_units::{Blob, OutOfMemory};
+use rtp_wire::laws::packets_are_their_bytes;
 use rtp_wire::{RtpView, read};
 use std::alloc::Global;
 use std::marker::Model;
@@ -30,6 +31,7 @@ impl SentPacket {
     pub(crate) fn copy_of(alloc: Global, view: &RtpView<'_>) -> Result<SentPacket, OutOfMemory>
         ensures { IfOk result (λ sent. sent ≡ view.now) }
     {
+        packets_are_their_bytes();
         Ok(SentPacket {
             seq: view.seq(),
             bytes: Blob::copy_of(alloc, view.bytes())?,

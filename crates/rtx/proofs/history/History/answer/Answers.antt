@@ -2,7 +2,7 @@ use Rattle.std.proofs.Common.{◌≡◌, ◌∙◌, ℕ, Some, refl, sym, ap, su
 use Rattle.std.specs.Option.{option_and_then}
 use Rattle.std.specs.Map.{lookup}
 use Rattle.rtp_wire.specs.Packet.{Packet, IsPacket}
-use Rattle.rtx.specs.Sending.{Sending, is_stream, latest_in, outlet_of, retransmission_packet}
+use Rattle.rtx.specs.Sending.{Sending, is_stream, latest_in, outlet_of, retransmission_packet, retransmission_spelling}
 use Rattle.rtx.specs.Answering.{StandsFor}
 use Rattle.rtx.proofs.Remembering.{sought_is, answers_some}
 use Rattle.rtx.proofs.history.History.answer.Goals as goal
@@ -22,7 +22,8 @@ returns-clause-answer c = λ s calls stands.
       o,
       sought_is _ s calls c.args.session c.args.ssrc c.args.seq p (Some o) h some out,
       refl,
-      subst (λ (n : ℕ). IsPacket (retransmission_packet o n p c.in_ok-bytes.bytes)) (c.next_number-number.ensures ∙ h.numbers (o.session, o.ssrc)) c.in_ok-bytes.ensures,
+      c.in_ok-bytes.ensures.value ∙ ap (λ (n : ℕ). retransmission_spelling o n p) (c.next_number-number.ensures ∙ h.numbers (o.session, o.ssrc)),
+      subst (λ (n : ℕ). IsPacket (retransmission_packet o n p c.in_ok-bytes.bytes)) (c.next_number-number.ensures ∙ h.numbers (o.session, o.ssrc)) c.in_ok-bytes.ensures.packet,
     )
 
 pub returns-clause-stands : goal.returns-clause-stands
