@@ -1,3 +1,4 @@
 pub mod Least
 pub mod Order
 pub mod Reports
+mod Single

@@ -132,7 +132,7 @@ is_least cname es least rises f =
       others = λ lane delta has. above_in cname least es lane delta f.above (in_from_kept es lane (report_of cname delta) has);
     }
 
-one_least : (last : ℕ → Option LaneReport) (cname : List ℕ) (a b : ℤ) → IsLeast last cname a → IsLeast last cname b → a ≡ b
+pub one_least : (last : ℕ → Option LaneReport) (cname : List ℕ) (a b : ℤ) → IsLeast last cname a → IsLeast last cname b → a ≡ b
 one_least last cname a b x y =
     let le : a ≤ℤ b = x.others y.some.0 b y.some.1 in
     let ge : b ≤ℤ a = y.others x.some.0 a x.some.1 in
@@ -150,9 +150,8 @@ back_is least offset = let e : (least +ℤ pos offset) -ℤ least ≡ pos offset
 
 -- ---- all of it
 
-pub offsets : (cname : List ℕ) (es : Entries) (least : ℤ) → IsStrictlySortedBy nat_cmp (keys_of es) → least_in cname (values_of es) ≡ Some least → AreOffsets (kept es) cname (offsets_in cname least es)
-offsets cname es least sorted e =
-    let rises = rises_from (keys_of es) sorted in
+pub offsets_rising : (cname : List ℕ) (es : Entries) (least : ℤ) → Rises (keys_of es) → least_in cname (values_of es) ≡ Some least → AreOffsets (kept es) cname (offsets_in cname least es)
+offsets_rising cname es least rises e =
     let f = found cname es least e in
     let low = is_least cname es least rises f in
     record {
@@ -170,6 +169,9 @@ offsets cname es least sorted e =
             contains_from (offsets_in cname least es) (lane, offset) (subst (λ (n : ℕ). In (lane, n) (offsets_in cname least es)) (back_is least offset) put)),
       );
     }
+
+pub offsets : (cname : List ℕ) (es : Entries) (least : ℤ) → IsStrictlySortedBy nat_cmp (keys_of es) → least_in cname (values_of es) ≡ Some least → AreOffsets (kept es) cname (offsets_in cname least es)
+offsets cname es least sorted e = offsets_rising cname es least (rises_from (keys_of es) sorted) e
 
 not_named : (cname : List ℕ) (es : Entries) (lane : ℕ) (delta : ℤ) → NoneNamed cname es → In (lane, report_of cname delta) es → ⊥
 not_named cname [] lane delta none h = h

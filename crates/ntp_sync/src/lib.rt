@@ -2,6 +2,7 @@
 //! behind the one that is furthest ahead.
 #![tactic(auto)]
 
+pub mod laws;
 mod offsets;
 mod sync;
 
