@@ -1,9 +1,9 @@
 //! One lane along the timeline.
 ghost use Rattle.bin_core.specs.Totals.{IsCounted};
 
-use crate::counting::{push, turn};
 use crate::counts::{Counts, count_push, count_turn};
 use crate::replies::{reply_line, tell_dropped, tell_verdict};
+use jitter_core::uncounted::{push, turn};
 use jitter_core::{Arrival, Buffer, Origin, Packet, Turn};
 use jitter_model::laws::{accepted_in_window, covers_from_next};
 use log_model::laws::turns_come_to_rest;

@@ -3,7 +3,6 @@
 #![tactic(auto)]
 
 mod bin;
-mod counting;
 mod counts;
 mod front;
 mod lane;

@@ -15,7 +15,8 @@ use Rattle.jitter_model.specs.Times.{found, heights}
 use Rattle.jitter_model.specs.Runs.{Run}
 use Rattle.jitter_model.proofs.Chain.{split, has-le}
 use Rattle.jitter_model.proofs.Giving.{has-ge, is_some-found}
-use Rattle.jitter_model.proofs.Numbered.{IsNumbered, IsRun, IsOpened, AreTops, tops, numbered, opened_numbered, opened_run, length-accepted, pushes_most}
+use Rattle.jitter_model.specs.Laws.{IsRun}
+use Rattle.jitter_model.proofs.Numbered.{IsNumbered, IsOpened, AreTops, tops, numbered, opened_numbered, opened_run, length-accepted, pushes_most}
 use Rattle.jitter_model.proofs.Window.{InWindow, window, out_late}
 use Rattle.jitter_core.specs.declared.state.State.{State}
 use Rattle.jitter_core.specs.Parts.{Placed, Clocked, Marked, Requested}

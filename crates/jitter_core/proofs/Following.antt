@@ -56,11 +56,11 @@ within_by s m n q p false other w from to e = w q e
 within_with : (s : State) (m : Times) (n q : ℕ) (p : Option ℕ) → AreInRange s m → low (state_sight s) s.span.next ≤ n → n ≤ unwrap_or s.span.top 0 + 1 → IsSome (map.get (with_timer m n p) q) → (low (state_sight s) s.span.next ≤ q) × (q ≤ unwrap_or s.span.top 0 + 1)
 within_with s m n q p w from to e = within_by s m n q p (q == n) refl w from to (subst (λ (o : Option ℕ). IsSome o) (get_with m n q p) e)
 
-pub ready_next : (s : State) (x y : Timers) (n most : ℕ) (p : Option ℕ) → IsReady s x most → low (state_sight s) s.span.next ≤ n → n ≤ unwrap_or s.span.top 0 + 1 → y ≡ record { room = x.room; times = with_timer x.times n p } → IsReady s y (most + 1)
+pub ready_next : (s : State) (x y : Timers) (n most : ℕ) (p : Option ℕ) → IsReady s x most → low (state_sight s) s.span.next ≤ n → n ≤ unwrap_or s.span.top 0 + 1 → y ≡ record { room = x.room; times = with_timer x.times n p; heap = y.heap } → IsReady s y (most + 1)
 ready_next s x y n most p r from to e =
     record {
       room = ap (λ (z : Timers). z.room) e ∙ r.room;
-      few = rw e (omega (arith, len_with x.times n p, r.few));
+      few = let times : y.times ≡ with_timer x.times n p = ap (λ (z : Timers). z.times) e in rw times (omega (arith, len_with x.times n p, r.few));
       within = λ q is. within_with s x.times n q p r.within from to (subst (λ (z : Timers). IsSome (map.get z.times q)) e is);
     }
 
@@ -70,7 +70,7 @@ none_below s m q None e w lt = record { some = λ t f. cc; none = λ _ le _. abs
 none_below s m q (Some t) e w lt = absurd (let le : low (state_sight s) s.span.next ≤ q = (w q (ap is_some e)).0 in omega arith)
 
 -- the first two are set
-two_set : (s : State) (x y z : Timers) (number q : ℕ) → s.span.top ≡ Some number → low (state_sight s) s.span.next ≤ number → AreTimersBut s number x.times → y ≡ record { room = x.room; times = with_timer x.times number (pending s.settings (state_sight s) number) } → z ≡ record { room = y.room; times = with_timer y.times (number + 1) (pending s.settings (state_sight s) (number + 1)) }
+two_set : (s : State) (x y z : Timers) (number q : ℕ) → s.span.top ≡ Some number → low (state_sight s) s.span.next ≤ number → AreTimersBut s number x.times → y ≡ record { room = x.room; times = with_timer x.times number (pending s.settings (state_sight s) number); heap = y.heap } → z ≡ record { room = y.room; times = with_timer y.times (number + 1) (pending s.settings (state_sight s) (number + 1)); heap = z.heap }
     → (s.settings.reorder ≢ 0 → q + s.settings.reorder ≢ number) → IsTimer s.settings (state_sight s) (low (state_sight s) s.span.next) q (map.get z.times q)
 two_set s x y z number q top from h e f other =
     subst (λ (w : Timers). IsTimer s.settings (state_sight s) (low (state_sight s) s.span.next) q (map.get w.times q)) (sym f)
@@ -78,14 +78,14 @@ two_set s x y z number q top from h e f other =
     subst (λ (w : Timers). IsTimer s.settings (state_sight s) (low (state_sight s) s.span.next) q (map.get w.times q)) (sym e)
     (set_timer s.settings (state_sight s) (low (state_sight s) s.span.next) number q x.times from (λ own. h q own above other))))
 
-pub three_set : (s : State) (x y z w : Timers) (number reorder : ℕ) → s.span.top ≡ Some number → low (state_sight s) s.span.next ≤ number → AreTimersBut s number x.times → y ≡ record { room = x.room; times = with_timer x.times number (pending s.settings (state_sight s) number) } → z ≡ record { room = y.room; times = with_timer y.times (number + 1) (pending s.settings (state_sight s) (number + 1)) }
-    → reorder ≡ s.settings.reorder → low (state_sight s) s.span.next + reorder ≤ number → w ≡ record { room = z.room; times = with_timer z.times (number - reorder) (pending s.settings (state_sight s) (number - reorder)) } → AreTimers s w.times
+pub three_set : (s : State) (x y z w : Timers) (number reorder : ℕ) → s.span.top ≡ Some number → low (state_sight s) s.span.next ≤ number → AreTimersBut s number x.times → y ≡ record { room = x.room; times = with_timer x.times number (pending s.settings (state_sight s) number); heap = y.heap } → z ≡ record { room = y.room; times = with_timer y.times (number + 1) (pending s.settings (state_sight s) (number + 1)); heap = z.heap }
+    → reorder ≡ s.settings.reorder → low (state_sight s) s.span.next + reorder ≤ number → w ≡ record { room = z.room; times = with_timer z.times (number - reorder) (pending s.settings (state_sight s) (number - reorder)); heap = w.heap } → AreTimers s w.times
 three_set s x y z w number reorder top from h e f is le g q =
     subst (λ (u : Timers). IsTimer s.settings (state_sight s) (low (state_sight s) s.span.next) q (map.get u.times q)) (sym g)
     (set_timer s.settings (state_sight s) (low (state_sight s) s.span.next) (number - reorder) q z.times (omega arith) (λ other.
     two_set s x y z number q top from h e f (λ _ sum. other (omega arith))))
 
-pub two_right : (s : State) (x y z : Timers) (number reorder : ℕ) → s.span.top ≡ Some number → low (state_sight s) s.span.next ≤ number → AreTimersBut s number x.times → AreInRange s z.times → y ≡ record { room = x.room; times = with_timer x.times number (pending s.settings (state_sight s) number) } → z ≡ record { room = y.room; times = with_timer y.times (number + 1) (pending s.settings (state_sight s) (number + 1)) }
+pub two_right : (s : State) (x y z : Timers) (number reorder : ℕ) → s.span.top ≡ Some number → low (state_sight s) s.span.next ≤ number → AreTimersBut s number x.times → AreInRange s z.times → y ≡ record { room = x.room; times = with_timer x.times number (pending s.settings (state_sight s) number); heap = y.heap } → z ≡ record { room = y.room; times = with_timer y.times (number + 1) (pending s.settings (state_sight s) (number + 1)); heap = z.heap }
     → reorder ≡ s.settings.reorder → number < low (state_sight s) s.span.next + reorder → AreTimers s z.times
 two_right s x y z number reorder top from h w e f is lt q =
     elim (nat_le (low (state_sight s) s.span.next) q) as (λ b. nat_le (low (state_sight s) s.span.next) q ≡ b → IsTimer s.settings (state_sight s) (low (state_sight s) s.span.next) q (map.get z.times q)) [

@@ -9,7 +9,8 @@ use Rattle.jitter_model.specs.Accepted.{top, least, has, number_from, is_origina
 use Rattle.jitter_model.specs.Verdicts.{is_full, opened_number}
 use Rattle.jitter_model.specs.Times.{found}
 use Rattle.jitter_model.proofs.Giving.{is_some-found}
-use Rattle.jitter_model.proofs.Numbered.{IsRun, IsOpened, opened_run, run_rest, above_has}
+use Rattle.jitter_model.specs.Laws.{IsRun}
+use Rattle.jitter_model.proofs.Numbered.{IsOpened, opened_run, run_rest, above_has}
 use Rattle.jitter_core.specs.declared.state.State.{State}
 use Rattle.jitter_core.specs.Asides.{newest_first}
 use Rattle.jitter_core.specs.Steps.{IsTimely, IsBounded, CanAccept, Accepts, state_number}

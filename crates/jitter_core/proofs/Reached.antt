@@ -10,7 +10,8 @@ use Rattle.jitter_model.specs.declared.Arrival.{Arrival}
 use Rattle.jitter_model.specs.History.{History}
 use Rattle.jitter_model.specs.Accepted.{aside}
 use Rattle.jitter_model.specs.Runs.{IsValid}
-use Rattle.jitter_model.proofs.Numbered.{IsRun, IsAsideRun, aside_run, run_or_none, valid_of, latency_most}
+use Rattle.jitter_model.specs.Laws.{IsRun, IsAsideRun}
+use Rattle.jitter_model.proofs.Numbered.{aside_run, run_or_none, valid_of, latency_most}
 use Rattle.jitter_core.specs.declared.state.State.{State}
 use Rattle.jitter_core.specs.Asides.{in_order}
 use Rattle.jitter_core.specs.Served.{served_in}

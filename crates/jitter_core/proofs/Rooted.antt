@@ -16,7 +16,8 @@ use Rattle.jitter_model.specs.Times.{is_height, heights, skew_heights}
 use Rattle.jitter_model.specs.Runs.{IsInRange, Run}
 use Rattle.jitter_model.proofs.Chain.{split}
 use Rattle.jitter_model.proofs.Judged.{IsAccepted, IsRestart, says}
-use Rattle.jitter_model.proofs.Numbered.{IsRun, IsAsideRun, aside_run, joined_run}
+use Rattle.jitter_model.specs.Laws.{IsRun, IsAsideRun}
+use Rattle.jitter_model.proofs.Numbered.{aside_run, joined_run}
 
 abbrev pub IsRooted : List Taken → Type 0
 IsRooted [] = ⊤

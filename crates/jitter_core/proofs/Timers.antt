@@ -1,5 +1,5 @@
 -- How many timers there are, and how many steps they take.
-use Rattle.std.proofs.Common.{ℕ, zero, suc, ◌≡◌, ◌≢◌, ◌+◌, ◌-◌, ◌*◌, ◌^◌, ◌≤◌, ◌<◌, Bool, true, false, not, ◌&&◌, refl, sym, ap, subst, ◌∙◌, Option, None, Some, arith}
+use Rattle.std.proofs.Common.{ℕ, zero, suc, ◌≡◌, ◌≢◌, ◌+◌, ◌-◌, ◌*◌, ◌^◌, ◌≤◌, ◌<◌, Bool, true, false, not, ◌&&◌, refl, sym, ap, subst, ◌∙◌, [], Option, None, Some, arith}
 use Rattle.std.specs.Prelude.{nat_lt, nat_le, ◌==◌, ◌%◌, IsSome, is_some, unwrap_or, if◌then◌else◌}
 use Rattle.std.proofs.lemmas.Grind.{common_steps}
 use Rattle.std.proofs.Math.Nat.{pow-le-pow_right}
@@ -333,7 +333,7 @@ pub record Setting (s : State) (low n : ℕ) (q : Timers) (before after : ℕ) :
   pub few : map.len q.times ≤ sets_from s.settings (state_sight s) n (unwrap_or s.span.top 0 + 2 - n)
   pub quick : after ≤ before + 14 * sets_from s.settings (state_sight s) n (unwrap_or s.span.top 0 + 2 - n)
 
-pub setting_first : (s : State) (low n before room : ℕ) (q : Timers) → low ≤ unwrap_or s.span.top 0 + 1 → n ≡ unwrap_or s.span.top 0 + 2 → room ≡ 16384 → q ≡ record { room = room; times = map.empty } → Setting s low n q before before
+pub setting_first : (s : State) (low n before room : ℕ) (q : Timers) → low ≤ unwrap_or s.span.top 0 + 1 → n ≡ unwrap_or s.span.top 0 + 2 → room ≡ 16384 → q ≡ record { room = room; times = map.empty; heap = [] } → Setting s low n q before before
 setting_first s low n before room q le is sixteen e =
     record {
       from = omega arith;
@@ -344,11 +344,12 @@ setting_first s low n before room q le is sixteen e =
       quick = omega arith;
     }
 
-pub setting_some : (s : State) (low n t before between after : ℕ) (q r : Timers) → IsBounded s → low ≤ n - 1 → 0 < n → pending s.settings (state_sight s) (n - 1) ≡ Some t → low ≡ low_of (state_sight s) s.span.next → Setting s low n q before between → r ≡ record { room = q.room; times = map.insert q.times (n - 1) t } → IsQuick q.times r.times between after → Setting s low (n - 1) r before after
+pub setting_some : (s : State) (low n t before between after : ℕ) (q r : Timers) → IsBounded s → low ≤ n - 1 → 0 < n → pending s.settings (state_sight s) (n - 1) ≡ Some t → low ≡ low_of (state_sight s) s.span.next → Setting s low n q before between → r ≡ record { room = q.room; times = map.insert q.times (n - 1) t; heap = r.heap } → IsQuick q.times r.times between after → Setting s low (n - 1) r before after
 setting_some s low n t before between after q r b from some e is x f y =
     let all : sets_from s.settings (state_sight s) (n - 1) (unwrap_or s.span.top 0 + 2 - (n - 1)) ≡ 1 + sets_from s.settings (state_sight s) n (unwrap_or s.span.top 0 + 2 - n) = sets_some s.settings (state_sight s) n (unwrap_or s.span.top 0 + 2) t some x.to e in
     let most : sets_from s.settings (state_sight s) n (unwrap_or s.span.top 0 + 2 - n) ≤ unwrap_or s.span.top 0 + 2 - n = sets_most s.settings (state_sight s) n (unwrap_or s.span.top 0 + 2 - n) in
-    let one_more : map.len r.times ≤ map.len q.times + 1 = rw f (len_insert q.times (n - 1) t) in
+    let times : r.times ≡ map.insert q.times (n - 1) t = ap (λ (z : Timers). z.times) f in
+    let one_more : map.len r.times ≤ map.len q.times + 1 = rw times (len_insert q.times (n - 1) t) in
     let near : unwrap_or s.span.top 0 < low + 8192 = rw is (near s b) in
     let few : map.len q.times ≤ 8194 = omega (arith, x.few, x.from) in
     let step : after ≤ between + 14 = quick q.times r.times between after few (omega arith) y in
@@ -356,7 +357,7 @@ setting_some s low n t before between after q r b from some e is x f y =
       from = from;
       to = omega (arith, x.to);
       room = ap (λ (z : Timers). z.room) f ∙ x.room;
-      set = rw f (set_one s.settings (state_sight s) n t q.times some e x.set);
+      set = rw times (set_one s.settings (state_sight s) n t q.times some e x.set);
       few = omega (arith, all, one_more, x.few);
       quick = omega (arith, all, step, x.quick);
     }

@@ -123,6 +123,6 @@ TurnDoes old End new = TellsEnd old new
 TurnDoes old (Idle wake) new = IsSame old new
 TurnDoes old Flushing new = IsSame old new
 
--- how many turns at most are still answered with something else than Idle or Flushing, if nothing else comes
+-- how many turns at most are still answered with something else than Idle or Flushing, if nothing else comes: none while a flush runs
 abbrev pub state_left : State → ℕ
-state_left s = left_by s.settings (state_sight s) s.span.next
+state_left s = if s.progress.flushing then 0 else left_by s.settings (state_sight s) s.span.next

@@ -12,6 +12,7 @@ use crate::served::Served;
 use crate::state::{Progress, Span, State};
 use crate::timing::{delay, end_pusher, pass_time};
 use crate::turning::{have_all_ended, turn_on};
+use jitter_model::laws::{turns_run_out, wakes_are_later};
 use jitter_model::{Arrival, Held, Pushed, Settings, Turn};
 use jitter_timers::{Steps, TimerQueue};
 use packet_store::{AsideList, Store};
@@ -40,7 +41,7 @@ impl Buffer {
     ghost use Rattle.jitter_model.specs.History.{History, pushes, is_pusher, all_ended};
     ghost use Rattle.jitter_model.specs.Verdicts.{pushed as reply_to_push};
     ghost use Rattle.jitter_model.specs.Times.{held};
-    ghost use Rattle.jitter_model.specs.Turns.{turn, is_quiet, wake_of, next_request};
+    ghost use Rattle.jitter_model.specs.Turns.{turn, is_quiet, wake_of, left, next_request};
     ghost use Rattle.jitter_model.specs.Runs.{IsValid, flush_count, report};
     ghost use Rattle.jitter_model.specs.Laws.{IsLater};
     ghost use Rattle.jitter_core.specs.Turning.{is_idle};
@@ -122,11 +123,15 @@ impl Buffer {
         ensures value { (h : History) → Stands self.old h → result ≡ turn (settings_of self.old) h }
         ensures stands { (h : History) → Stands self.old h → Stands self.new (Turned result ∷ h) }
         ensures quiet { is_quiet result ≡ true → (h : History) → Stands self.old h → Stands self.new h }
+        ensures measure { (h : History) → Stands self.old h → left_of self.old ≡ left (settings_of self.old) h }
         ensures left { is_quiet result ≡ false → left_of self.new < left_of self.old }
         ensures later { IsLater (now_of self.old) (wake_of result) }
         ensures timers { is_idle result ≡ true → (h : History) → Stands self.old h → (n : ℕ) → map.get (timers_of self.new).times n ≡ next_request (settings_of self.old) h n }
         ensures quick { (h : History) → Stands self.old h → steps.new ≤ steps.old + 64 * (gaps (settings_of self.old) h + 2) }
     {
+        // Laws for the proof; the calls do nothing.
+        turns_run_out();
+        wakes_are_later();
         turn_on(&mut self.state, &mut self.schedule, steps)
     }
 

@@ -1,8 +1,8 @@
 //! The timers of requests that are still to come.
 
-ghost use Rattle.std.specs.Prelude.{◌≡◌, ◌<◌, ◌≤◌, ◌^◌, ◌+◌, ◌*◌, IfOk, IfSome, None, Some, option_map, true, false};
+ghost use Rattle.std.specs.Prelude.{◌≡◌, ◌<◌, ◌≤◌, ◌^◌, ◌+◌, ◌*◌, [], IfOk, IfSome, None, Some, option_map, true, false};
 ghost use Rattle.std.specs.FinMap as map;
-ghost use Rattle.jitter_timers.specs.Timers.{queue, HasRoom};
+ghost use Rattle.jitter_timers.specs.Timers.{queue, IsQueue, HasRoom};
 ghost use Rattle.jitter_model.specs.Turns.{low as low_of};
 ghost use Rattle.jitter_core.specs.Steps.{IsBounded};
 ghost use Rattle.jitter_core.specs.Requesting.{asked_of};
@@ -31,7 +31,7 @@ pub struct Schedule {
 impl Schedule {
     /// No timers.
     pub fn new(alloc: Global) -> Result<Schedule, OutOfMemory>
-        ensures timers { IfOk result (λ x. x.timers ≡ queue 16384 map.empty) }
+        ensures timers { IfOk result (λ x. x.timers ≡ queue 16384 map.empty []) }
         ensures stale { IfOk result (λ x. x.stale ≡ true) }
     {
         Ok(Schedule {
@@ -139,7 +139,7 @@ fn reschedule<L: Ledger>(
     requires number { number ≤ 2 ^ 62 }
     requires room { HasRoom timers.old number }
     requires few { map.len timers.old.times ≤ 8194 }
-    ensures after { timers.new ≡ queue timers.old.room (with_timer timers.old.times number (pending state.now.settings (state_sight state.now) number)) }
+    ensures after { IsQueue timers.new timers.old.room (with_timer timers.old.times number (pending state.now.settings (state_sight state.now) number)) }
     ensures quick { steps.new ≤ steps.old + 14 }
 {
     match pending_time(state, number, ended) {

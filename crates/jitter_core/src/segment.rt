@@ -4,7 +4,7 @@ ghost use Rattle.std.specs.Prelude.{◌≡◌, ◌<◌, ◌≤◌, ◌^◌, ◌+
 ghost use Rattle.std.specs.FinMap as map;
 ghost use Rattle.packet_store.specs.Store.{IsWindow};
 ghost use Rattle.jitter_model.specs.Verdicts.{opened_number};
-ghost use Rattle.jitter_model.proofs.Numbered.{IsRun};
+ghost use Rattle.jitter_model.specs.Laws.{IsRun};
 ghost use Rattle.jitter_core.specs.Asides.{in_order, newest_first};
 ghost use Rattle.jitter_core.specs.Steps.{IsBounded, IsFitted, CanAccept, Accepts, accepted_span, lowest, run_of, state_number};
 ghost use Rattle.jitter_core.specs.Peaks.{with_peak};
@@ -74,7 +74,8 @@ fn hold(store: &mut Store<Held>, low: u64, number: u64, held: Held)
     ensures { store.new ≡ map.insert store.old number held }
 {
     match store.offer(low, number, held) {
-        Offer::Held | Offer::Duplicate(_) | Offer::Full(_) => {}
+        Offer::Held => {}
+        Offer::Duplicate(_) | Offer::Full(_) => unreachable!(),
     }
 }
 

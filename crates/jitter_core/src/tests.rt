@@ -7,7 +7,7 @@ ghost use Rattle.jitter_core.specs.Words.{settings_of, pushes_of};
 use crate::{Buffer, rows};
 use jitter_model::{Arrival, Origin, Packet, Pushed, Settings, Turn, Verdict};
 use jitter_timers::Steps;
-use rtp_units::{Blob, Mode, OutOfMemory};
+use rtp_units::{Blob, Mode, OutOfMemory, SyncInfo};
 use std::alloc::Global;
 use std::marker::Brand;
 use std::sync::ledger::{Blank, Ledger};
@@ -321,5 +321,74 @@ fn after_the_window<L: Ledger>(
 fn the_window_forgets_its_first_difference(rt: HostRuntime) -> Result<(), Fail> {
     let times = after_the_window::<Brand>(rt.alloc(), Blank::new(1))?;
     assert_eq!(rt; times, (Some(512_001_000), Some(513_001_992)));
+    Ok(())
+}
+
+/// What a buffer answers, and what it shows.
+#[derive(Debug, PartialEq, Eq, Drop)]
+struct Shown {
+    turns: [Answer; 4],
+    /// Whether the packet that was given out and the one after it are held, after the first was given out.
+    held: (bool, bool),
+    /// The first timer after an idle turn.
+    timer: Option<(u64, u64)>,
+    report: Option<SyncInfo>,
+    /// Whether all pushers ended, before and after they did.
+    ended: (bool, bool),
+}
+
+/// The output begins with two consecutive packets, long before the latency has passed.
+fn fast_start<L: Ledger>(alloc: Global, blank: Blank) -> Result<Shown, OutOfMemory>
+    requires name { blank.name ≡ L.name }
+    requires parts { blank.parts ≡ L.parts }
+    requires some { 0 < blank.parts }
+{
+    let settings = Settings {
+        rtx: true,
+        reorder: 0,
+        faststart: 2,
+        ..SETTINGS
+    };
+    let mut steps = Steps::<L>::new(blank);
+    let mut buffer = Buffer::new(alloc, &settings)?;
+    take(alloc, &mut buffer, Call::Push(1, 0, 0, 4), &mut steps)?;
+    let waits = take(alloc, &mut buffer, Call::Turn, &mut steps)?;
+    take(alloc, &mut buffer, Call::Push(2, 20, 1_800, 4), &mut steps)?;
+    let first = take(alloc, &mut buffer, Call::Turn, &mut steps)?;
+    let held = (buffer.store().has(65_537), buffer.store().has(65_538));
+    let second = take(alloc, &mut buffer, Call::Turn, &mut steps)?;
+    let rests = take(alloc, &mut buffer, Call::Turn, &mut steps)?;
+    let timer = buffer.timers().first();
+    let report = buffer.sender_report(5, 2_700);
+    let before = buffer.all_ended();
+    take(alloc, &mut buffer, Call::EndAll, &mut steps)?;
+    Ok(Shown {
+        turns: [waits, first, second, rests],
+        held,
+        timer,
+        report,
+        ended: (before, buffer.all_ended()),
+    })
+}
+
+#[test]
+fn a_fast_start(rt: HostRuntime) -> Result<(), Fail> {
+    let shown = fast_start::<Brand>(rt.alloc(), Blank::new(1))?;
+    let wanted = Shown {
+        turns: [
+            Answer::Idle(Some(100_000_000)),
+            Answer::Packet(65_537, 0, 4),
+            Answer::Packet(65_538, 20_000_000, 4),
+            Answer::Idle(Some(60_000_000)),
+        ],
+        held: (false, true),
+        timer: Some((60_000_000, 65_539)),
+        report: Some(SyncInfo {
+            ntp_ns: 5,
+            local: 30_000_000,
+        }),
+        ended: (false, true),
+    };
+    assert_eq!(rt; shown, wanted);
     Ok(())
 }

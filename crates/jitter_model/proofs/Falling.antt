@@ -7,7 +7,7 @@ use Rattle.jitter_model.specs.declared.Held.{Held}
 use Rattle.jitter_model.specs.declared.Turn.{Turn}
 use Rattle.jitter_model.specs.declared.Turn.TheVariants.{Packet, Lost, Request, End, Idle, Flushing}
 use Rattle.jitter_model.specs.declared.Entry.TheVariants.{Clock, Turned}
-use Rattle.jitter_model.specs.History.{History, is_end}
+use Rattle.jitter_model.specs.History.{History, is_flushing, is_end}
 use Rattle.jitter_model.specs.Accepted.{accepted}
 use Rattle.jitter_model.specs.Covered.{next, next_after, served_after}
 use Rattle.jitter_model.specs.Requests.{Wanted, due, Asked, earlier}
@@ -153,9 +153,19 @@ turn_falls s v o le below =
     (λ _ _ _ _ e. end_falls s v o (not_told v.ended (is_done v o) v.told e))
     (λ _ _ _ _ _. record { fact = λ e. cc })
 
+flushing_quiet : (s : Settings) (h : History) → is_flushing h ≡ true → is_quiet (turn s h) ≡ true
+flushing_quiet s h e = rw e refl
+
+outside_falls : (s : Settings) (h : History) (r : Turn) → is_flushing h ≡ false → Falls s (sight s h) (next h) r → is_quiet r ≡ false → left s (Turned r ∷ h) < left s h
+outside_falls s h r e f q = rw e (f.fact q)
+
 -- a turn that isn't quiet leaves fewer
 pub left_falls : (s : Settings) (h : History) → is_quiet (turn s h) ≡ false → left s (Turned (turn s h) ∷ h) < left s h
-left_falls s h e = (turn_falls s (sight s h) (next h) (least_le_top (accepted h)) (has-le (accepted h))).fact e
+left_falls s h q =
+    elim (is_flushing h) as (λ b. is_flushing h ≡ b → left s (Turned (turn s h) ∷ h) < left s h) [
+      | true ↦ λ e. absurd (let quiet : is_quiet (turn s h) ≡ true = flushing_quiet s h e in cc)
+      | false ↦ λ e. outside_falls s h (turn s h) e (turn_falls s (sight s h) (next h) (least_le_top (accepted h)) (has-le (accepted h))) q
+    ] refl
 
 -- a quiet turn leaves the same
 pub quiet_same : (s : Settings) (h : History) (r : Turn) → is_quiet r ≡ true → left s (Turned r ∷ h) ≡ left s h

@@ -12,21 +12,11 @@ use Rattle.jitter_model.specs.History.{History, pushes, latency, is_flushing}
 use Rattle.jitter_model.specs.Accepted.{Taken, top, least, has, number_from, is_original, follows, joined, ended_by, run_after, aside, opened, taken_after, accepted}
 use Rattle.jitter_model.specs.Verdicts.{opened_number, verdict, view}
 use Rattle.jitter_model.specs.Runs.{IsValid, IsInRange, Run}
+use Rattle.jitter_model.specs.Laws.{IsRun, IsAsideRun}
 use Rattle.jitter_model.proofs.Chain.{split, has-le}
 use Rattle.jitter_model.proofs.Judged.{IsAside, IsRestart, IsAccepted, says}
 
 -- ---- the packets that are put aside
-
--- originals with numbers in range, each one above the one before it, modulo 2^16
-abbrev pub IsRun : List Arrival → Type 0
-IsRun [] = ⊤
-IsRun (a ∷ []) = IsInRange a × (is_original a.origin ≡ true)
-IsRun (a ∷ b ∷ run) = IsInRange a × (is_original a.origin ≡ true) × (a.packet.seq ≡ (b.packet.seq + 1) % 65536) × IsRun (b ∷ run)
-
--- at most four
-pub record IsAsideRun (run : List Arrival) : Type 0 where
-  pub fact : IsRun run
-  pub few : length run ≤ 4
 
 pub run_more : (run : List Arrival) (a : Arrival) → IsRun run → IsInRange a → is_original a.origin ≡ true → follows run a ≡ true → IsRun (a ∷ run)
 run_more [] a r i o e = (i, o)

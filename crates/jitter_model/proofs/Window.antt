@@ -17,11 +17,11 @@ use Rattle.jitter_model.specs.Requests.{later}
 use Rattle.jitter_model.specs.Times.{first_pts}
 use Rattle.jitter_model.specs.Turns.{Sight, may_start, start_time, sight}
 use Rattle.jitter_model.specs.Runs.{IsInRange, Run}
-use Rattle.jitter_model.specs.Laws.{IsWindow}
+use Rattle.jitter_model.specs.Laws.{IsWindow, IsRun, IsAsideRun}
 use Rattle.jitter_model.proofs.Chain.{has-le}
 use Rattle.jitter_model.proofs.Covers.{Covers, covers}
 use Rattle.jitter_model.proofs.Judged.{IsAccepted, IsRestart, says}
-use Rattle.jitter_model.proofs.Numbered.{IsRun, IsAsideRun, IsOpened, aside_run, joined_run, joined_five, joined_follows, opened_run}
+use Rattle.jitter_model.proofs.Numbered.{IsOpened, aside_run, joined_run, joined_five, joined_follows, opened_run}
 
 pub record InWindow (t l o : Option ℕ) : Type 0 where
   pub fact : IsWindow t l o

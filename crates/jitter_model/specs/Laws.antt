@@ -1,15 +1,17 @@
 -- What the laws of the list machine say.
-use Rattle.std.specs.Prelude.{◌%◌, ◌++◌, ◌==◌, Bool, true, false, ◌&&◌, ◌||◌, not, nat_lt, nat_le, ◌≤◌, ℕ, ◌+◌, ◌<◌, ◌≡◌, ⊤, List, [], ◌∷◌, Option, Some, None}
+use Rattle.std.specs.Prelude.{length, ◌%◌, ◌++◌, ◌==◌, Bool, true, false, ◌&&◌, ◌||◌, not, nat_lt, nat_le, ◌≤◌, ℕ, ◌+◌, ◌<◌, ◌≡◌, ⊤, List, [], ◌∷◌, Option, Some, None}
 use Rattle.rtp_units.specs.Numbers.{ext16}
 use Rattle.jitter_model.specs.declared.Settings.{Settings}
 use Rattle.jitter_model.specs.declared.Packet.{Packet}
+use Rattle.jitter_model.specs.declared.Arrival.{Arrival}
 use Rattle.jitter_model.specs.declared.Turn.{Turn}
 use Rattle.jitter_model.specs.declared.Turn.TheVariants.{Lost}
 use Rattle.jitter_model.specs.declared.Entry.TheVariants.{Push, FlushStop, Turned}
 use Rattle.jitter_model.specs.History.{History, now, latency, is_flushing}
-use Rattle.jitter_model.specs.Accepted.{Taken, has, accepted}
+use Rattle.jitter_model.specs.Accepted.{Taken, has, is_original, accepted}
 use Rattle.jitter_model.specs.Covered.{opens}
 use Rattle.jitter_model.specs.Times.{pts_after, marks, expected}
+use Rattle.jitter_model.specs.Runs.{IsInRange}
 
 -- there is no such time, or it is later
 abbrev pub IsLater : ℕ → Option ℕ → Type 0
@@ -90,3 +92,14 @@ abbrev pub HaveRoom : Option ℕ → Option ℕ → Type 0
 HaveRoom None None = ⊤
 HaveRoom (Some greatest) (Some least) = (65536 ≤ greatest) × (greatest ≤ 140737488355328) × (32768 ≤ least)
 HaveRoom greatest least = ⊥
+
+-- originals with numbers in range, each one above the one before it, modulo 2^16
+abbrev pub IsRun : List Arrival → Type 0
+IsRun [] = ⊤
+IsRun (a ∷ []) = IsInRange a × (is_original a.origin ≡ true)
+IsRun (a ∷ b ∷ run) = IsInRange a × (is_original a.origin ≡ true) × (a.packet.seq ≡ (b.packet.seq + 1) % 65536) × IsRun (b ∷ run)
+
+-- at most four of these
+pub record IsAsideRun (run : List Arrival) : Type 0 where
+  pub fact : IsRun run
+  pub few : length run ≤ 4

@@ -211,10 +211,10 @@ abbrev pub replies_left_from : Settings → (ℕ → ℕ) → ℕ → ℕ → �
 replies_left_from s served n zero = 0
 replies_left_from s served n (suc count) = replies_left s served n + replies_left_from s served (n + 1) count
 
--- how many turns at most are still answered with something else than Idle or Flushing, if nothing else comes
+-- how many turns at most are still answered with something else than Idle, if no flush runs and nothing else comes
 abbrev pub left_by : Settings → Sight → Option ℕ → ℕ
 left_by s v next = replies_left_from s v.served (low v next) (v.top + 2 - low v next) + (if v.told then 0 else 1)
 
--- the same after these calls
+-- how many turns at most are still answered with something else than Idle or Flushing after these calls, if nothing else comes: none while a flush runs
 abbrev pub left : Settings → History → ℕ
-left s h = left_by s (sight s h) (next h)
+left s h = if is_flushing h then 0 else left_by s (sight s h) (next h)

@@ -1,5 +1,6 @@
 pub mod Cost
 pub mod Holes
+pub mod Moved
 pub mod Moves
 pub mod TestLemmas
 pub mod Times

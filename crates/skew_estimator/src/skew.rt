@@ -102,7 +102,7 @@ impl Skew {
         ensures mode { self.new.mode ≡ self.old.mode }
     {
         let Some(before) = self.segment else {
-            return 0;
+            unreachable!()
         };
         let timestamp = extended(before.latest, rtp);
         let after = advance(
@@ -130,7 +130,7 @@ impl Skew {
         ensures mode { self.new.mode ≡ self.old.mode }
     {
         let Some(before) = self.segment else {
-            return 0;
+            unreachable!()
         };
         let timestamp = extended(before.latest, rtp);
         let after = with_latest(&before, timestamp);
@@ -145,7 +145,7 @@ impl Skew {
         ensures { (heights : List Height) → StandsFor self.now heights → IsOtherTime self.now heights rtp result }
     {
         let Some(segment) = self.segment else {
-            return 0;
+            unreachable!()
         };
         time_of(&segment, self.rate, extended(segment.latest, rtp))
     }

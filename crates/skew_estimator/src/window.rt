@@ -38,7 +38,7 @@ fn difference_at(differences: &HeapCircularBuffer<i128>, index: usize) -> i128
 {
     match differences.get(index) {
         Some(difference) => *difference,
-        None => 0,
+        None => unreachable!(),
     }
 }
 

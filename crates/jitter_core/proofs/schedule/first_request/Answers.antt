@@ -32,8 +32,8 @@ returns-in-Some-due_for-clause-value g c =
 pub returns-in-Some-due_for-clause-quick : goal.returns-in-Some-due_for-clause-quick
 returns-in-Some-due_for-clause-quick g c = omega (arith, c.loop-time.invariant.quick, few_timers c.args.state.now c.args.timers.now.times c.requires.bounded c.requires.right)
 
-gone : (old new : Timers) (number time : ℕ) → new ≡ record { room = old.room; times = map.remove old.times number } → map.get old.times number ≡ Some time → map.len new.times + 1 ≡ map.len old.times
-gone old new number time e is = rw e (omega (arith, len_gone old.times number time is, some_len old.times number time is))
+gone : (old new : Timers) (number time : ℕ) → new ≡ record { room = old.room; times = map.remove old.times number; heap = new.heap } → map.get old.times number ≡ Some time → map.len new.times + 1 ≡ map.len old.times
+gone old new number time e is = let times : new.times ≡ map.remove old.times number = ap (λ (z : Timers). z.times) e in rw times (omega (arith, len_gone old.times number time is, some_len old.times number time is))
 
 pub loop-time-smaller : goal.loop-time-smaller
 loop-time-smaller g c = omega (arith, gone c.loop-time.timers c.cancel.new.self c.in-Some.number c.in-Some.time c.cancel.ensures.after c.in-Some.ensures.0)

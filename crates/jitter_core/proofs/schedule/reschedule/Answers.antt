@@ -1,14 +1,14 @@
-use Rattle.std.proofs.Common.{ℕ, ◌≡◌, ◌+◌, ◌≤◌, arith}
+use Rattle.std.proofs.Common.{ℕ, ◌≡◌, ◌+◌, ◌≤◌, ap, arith}
 use Rattle.std.specs.FinMap as map
 use Rattle.jitter_timers.specs.Timers.{Timers}
 use Rattle.jitter_core.proofs.Timers.{quick, len_insert, len_remove}
 use Rattle.jitter_core.proofs.schedule.reschedule.Goals as goal
 
-set_few : (old new : Timers) (n t : ℕ) → new ≡ record { room = old.room; times = map.insert old.times n t } → map.len new.times ≤ map.len old.times + 1
-set_few old new n t e = rw e (len_insert old.times n t)
+set_few : (old new : Timers) (n t : ℕ) → new ≡ record { room = old.room; times = map.insert old.times n t; heap = new.heap } → map.len new.times ≤ map.len old.times + 1
+set_few old new n t e = let times : new.times ≡ map.insert old.times n t = ap (λ (z : Timers). z.times) e in rw times (len_insert old.times n t)
 
-gone_few : (old new : Timers) (n : ℕ) → new ≡ record { room = old.room; times = map.remove old.times n } → map.len new.times ≤ map.len old.times
-gone_few old new n e = rw e (len_remove old.times n)
+gone_few : (old new : Timers) (n : ℕ) → new ≡ record { room = old.room; times = map.remove old.times n; heap = new.heap } → map.len new.times ≤ map.len old.times
+gone_few old new n e = let times : new.times ≡ map.remove old.times n = ap (λ (z : Timers). z.times) e in rw times (len_remove old.times n)
 
 pub returns-in-Some-clause-quick : goal.returns-in-Some-clause-quick
 returns-in-Some-clause-quick g c =

@@ -25,7 +25,7 @@ reschedule-requires-clause-room g c = room_for c.args.state.now c.args.timers.no
 pub reschedule-requires-clause-few : goal.reschedule-requires-clause-few
 reschedule-requires-clause-few g c = omega (arith, few_timers c.args.state.now c.args.timers.now.times c.requires.bounded c.requires.right, few_gaps c.args.state.now c.requires.bounded)
 
-after : (s : State) (x y : Timers) (n k count : ℕ) (xs : List Service) → xs ≡ with_served s.served n count → count ≡ k + 1 → AreTimers (serving s n k) (with_timer x.times n (pending s.settings (state_sight (serving s n k)) n)) → y ≡ record { room = x.room; times = with_timer x.times n (pending s.settings (state_sight (record s { served = xs })) n) } → AreTimers (record s { served = xs }) y.times
+after : (s : State) (x y : Timers) (n k count : ℕ) (xs : List Service) → xs ≡ with_served s.served n count → count ≡ k + 1 → AreTimers (serving s n k) (with_timer x.times n (pending s.settings (state_sight (serving s n k)) n)) → y ≡ record { room = x.room; times = with_timer x.times n (pending s.settings (state_sight (record s { served = xs })) n); heap = y.heap } → AreTimers (record s { served = xs }) y.times
 after s x y n k count xs e is h f =
     let all : xs ≡ with_served s.served n (k + 1) = e ∙ ap (with_served s.served n) is in
     subst (λ (z : Timers). AreTimers (record s { served = xs }) z.times) (sym f)

@@ -1,7 +1,8 @@
 use Rattle.std.proofs.Common.{ℕ, ◌≡◌, ◌≤◌, sym, ap, subst, ◌∙◌, List, ◌∷◌, ◌++◌, drop, length, Option, Some, arith}
 use Rattle.jitter_model.specs.declared.Arrival.{Arrival}
 use Rattle.jitter_model.specs.Accepted.{number_from}
-use Rattle.jitter_model.proofs.Numbered.{IsRun, run_rest}
+use Rattle.jitter_model.specs.Laws.{IsRun}
+use Rattle.jitter_model.proofs.Numbered.{run_rest}
 use Rattle.jitter_core.specs.Asides.{newest_first}
 use Rattle.jitter_core.specs.Steps.{IsBounded, CanAccept, run_of, state_number}
 use Rattle.jitter_core.specs.Pushing.{IsOpenedBy, Opening}

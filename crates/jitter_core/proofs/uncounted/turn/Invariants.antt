@@ -1,4 +1,4 @@
-use Rattle.bin_core.proofs.counting.turn.Given as goal
+use Rattle.jitter_core.proofs.uncounted.turn.Given as goal
 
 abbrev pub ghosts-turn_counted : goal.ghosts-turn_counted
 ghosts-turn_counted a = record { name = a.blank.name; parts = a.blank.parts }

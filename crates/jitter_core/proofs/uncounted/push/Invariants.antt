@@ -1,4 +1,4 @@
-use Rattle.bin_core.proofs.counting.push.Given as goal
+use Rattle.jitter_core.proofs.uncounted.push.Given as goal
 
 abbrev pub ghosts-push_counted : goal.ghosts-push_counted
 ghosts-push_counted a = record { name = a.blank.name; parts = a.blank.parts }
