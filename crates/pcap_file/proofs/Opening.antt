@@ -1,6 +1,6 @@
 -- What the file header says, test by test, and what asking for it says of the capture.
-use Rattle.std.proofs.Common.{◌≡◌, ℕ, ◌<◌, true, false, List, [], ◌∷◌, ◌++◌, length, Option, Some, None, Result, Ok, Err, IsTrue, refl, sym, ap, ◌∙◌, arith}
-use Rattle.std.specs.Prelude.{nat_eq}
+use Rattle.std.proofs.Common.{◌≡◌, ℕ, ◌<◌, true, false, List, [], ◌∷◌, ◌++◌, length, Option, Some, None, Result, Ok, Err, IsTrue, Bool, refl, sym, ap, subst, ◌∙◌, arith}
+use Rattle.std.specs.Prelude.{nat_eq, if◌then◌else◌}
 use Rattle.std.specs.List.{starts_with}
 use Rattle.std.proofs.lemmas.Bool.{lt-ltb, le-ltb}
 use Rattle.std.proofs.lemmas.List.{length-append, take_at, drop_at}
@@ -13,7 +13,7 @@ use Rattle.pcap_file.specs.declared.fault.CaptureFault.{CaptureFault}
 use Rattle.pcap_file.specs.declared.fault.CaptureFault.TheVariants.{CutHeader, Pcapng, Magic, Version, Link}
 use Rattle.pcap_file.specs.Faults.{OnFault, IsOfBytes}
 use Rattle.pcap_file.specs.Capture.{Capture, empty, order_of, is_version, is_link, is_nano, link_at, format_in, format_of, behind_header, capture_of}
-use Rattle.pcap_file.specs.Reading.{StandsFor, TakesHeader, GaveNoHeader}
+use Rattle.pcap_file.specs.Reading.{StandsFor, TakesHeader, GaveNoHeader, TakesHead}
 use Rattle.pcap_file.proofs.FaultLemmas.{of_bytes}
 
 -- the first four bytes of a pcapng file
@@ -69,6 +69,41 @@ opens_good bytes held rest format a b len good takes = record {
   takes = takes;
   counted = refl;
   placed = sym len;
+  long = len;
   fault = refl;
   stands = λ more. capture_behind bytes more len ∙ ap (λ (f : Result Format CaptureFault). behind_header f more) (sym good);
 }
+
+-- ---- the beginning of either form
+
+pub opens_ng : (head bytes held rest : List ℕ) (a b : Disk) → length bytes ≡ 24 → head ≡ bytes → starts_with nat_eq head ng ≡ true → Takes bytes held rest a b → TakesHead head held rest a b
+opens_ng head bytes held rest a b len same begins takes =
+    let size : length head ≡ 24 = ap length same ∙ len in
+    let taken : Takes head held rest a b = subst (λ (xs : List ℕ). Takes xs held rest a b) (sym same) takes in
+    record {
+      takes = taken;
+      size = size;
+      begins = begins;
+      finds = λ t. ap capture_of (taken.coming t) ∙ capture_behind head (rest ++ b.left) size ∙ ap (λ (f : Result Format CaptureFault). behind_header f (rest ++ b.left)) (sym (format_ng head begins));
+    }
+
+abbrev pub of_ng : Result Format CaptureFault
+of_ng = Err Pcapng
+
+abbrev pub tested : Bool → Bool → Format → Result Format CaptureFault
+tested version link format = if version then (if link then Ok format else Err Link) else Err Version
+
+tested_other : (version link : Bool) (format : Format) → of_ng ≡ tested version link format → ⊥
+tested_other true true format is = cc
+tested_other true false format is = cc
+tested_other false link format is = cc
+
+format_in_other : (order : Option Order) (bytes : List ℕ) → of_ng ≡ format_in order bytes → ⊥
+format_in_other None bytes is = cc
+format_in_other (Some order) bytes is = tested_other (is_version order bytes) (is_link (link_at order bytes)) (record { order = order; nanoseconds = is_nano order bytes; link = link_at order bytes }) is
+
+pub format_other : (fault : CaptureFault) (bytes : List ℕ) → starts_with nat_eq bytes ng ≡ false → Err fault ≡ format_of bytes → fault ≡ Pcapng → ⊥
+unfolding format_of
+format_other fault bytes other bad is =
+    let e : of_ng ≡ format_of bytes = ap (λ (f : CaptureFault). Err f) (sym is) ∙ bad in
+    format_in_other (order_of bytes) bytes (rw other at e)

@@ -21,6 +21,7 @@ takes_record old new r held rest before after format count offset is = record {
   format = format;
   counted = count;
   placed = offset ∙ ap (λ (n : ℕ). old.offset + n) (sym is.long);
+  long = is.long;
   bound = omega (arith, is.bound);
   short = is.short;
   early = is.early;

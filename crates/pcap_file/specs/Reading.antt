@@ -1,5 +1,6 @@
 -- What reading a capture record by record leaves.
-use Rattle.std.specs.Prelude.{◌≡◌, ◌<◌, ◌≤◌, ℕ, ◌+◌, ◌*◌, ◌^◌, IsTrue, List, [], ◌∷◌, ◌++◌, length, Option, Some, None, Result, Ok, Err}
+use Rattle.std.specs.Prelude.{◌≡◌, ◌<◌, ◌≤◌, ℕ, ◌+◌, ◌*◌, ◌^◌, IsTrue, true, nat_eq, List, [], ◌∷◌, ◌++◌, length, Option, Some, None, Result, Ok, Err}
+use Rattle.std.specs.List.{starts_with}
 use Rattle.rtp_io.specs.Outside.{Disk}
 use Rattle.rtp_io.specs.Pulled.{Keeps, Takes}
 use Rattle.pcap_file.specs.Faults.{OnFault}
@@ -7,6 +8,9 @@ use Rattle.pcap_file.specs.Capture.{Record, AtEnd, AtFault, AtRecord, head, with
 use Rattle.pcap_file.specs.Place.{Place}
 use Rattle.pcap_file.specs.declared.header.Format.{Format}
 use Rattle.pcap_file.specs.declared.fault.CaptureFault.{CaptureFault}
+use Rattle.pcap_file.specs.declared.fault.CaptureFault.TheVariants.{Pcapng}
+use Rattle.pcap_file.specs.declared.pcap.Opened.{Opened}
+use Rattle.pcap_file.specs.declared.pcap.Opened.TheVariants.{Pcap as OfPcap, Ng}
 use Rattle.pcap_file.specs.declared.record.PcapRecord.{PcapRecord}
 
 -- a record as the capture's definition has it
@@ -24,6 +28,7 @@ pub record TakesRecord (old new : Place) (r : Record) (held rest : List ℕ) (be
   pub format : new.format ≡ old.format
   pub counted : new.count ≡ old.count + 1
   pub placed : new.offset ≡ old.offset + length taken
+  pub long : length taken ≡ 16 + length r.bytes
   pub bound : new.count ≤ 100000000
   pub short : length r.bytes ≤ 262144
   pub early : r.stamp < 2 ^ 32 * 1000000000
@@ -59,6 +64,7 @@ pub record TakesHeader (new : Place) (held rest : List ℕ) (before after : Disk
   pub takes : Takes taken held rest before after
   pub counted : new.count ≡ 0
   pub placed : new.offset ≡ length taken
+  pub long : length taken ≡ 24
   pub fault : new.fault ≡ None
   pub stands : StandsFor new taken []
 
@@ -72,6 +78,19 @@ pub record GaveNoHeader (held rest : List ℕ) (before after : Disk) : Type 0 wh
 abbrev pub AfterOpen : Result Place CaptureFault → List ℕ → List ℕ → Disk → Disk → Type 0
 AfterOpen (Ok new) held rest before after = TakesHeader new held rest before after
 AfterOpen (Err fault) held rest before after = OnFault fault (IsTrue before.told → capture_of (held ++ before.left) ≡ empty (Some fault)) (GaveNoHeader held rest before after) ⊥
+
+-- The first bytes of a pcapng file were taken.
+pub record TakesHead (head held rest : List ℕ) (before after : Disk) : Type 0 where
+  pub takes : Takes head held rest before after
+  pub size : length head ≡ 24
+  pub begins : starts_with nat_eq head (0x0a ∷ 0x0d ∷ 0x0d ∷ 0x0a ∷ []) ≡ true
+  pub finds : IsTrue before.told → capture_of (held ++ before.left) ≡ empty (Some Pcapng)
+
+-- what asking for the beginning of a capture of either form left
+abbrev pub AfterOpenAny : Result Opened CaptureFault → List ℕ → List ℕ → Disk → Disk → Type 0
+AfterOpenAny (Ok (OfPcap new)) held rest before after = TakesHeader new held rest before after
+AfterOpenAny (Ok (Ng head)) held rest before after = TakesHead head held rest before after
+AfterOpenAny (Err fault) held rest before after = AfterOpen (Err fault) held rest before after × (fault ≡ Pcapng → ⊥)
 
 -- the same of one record, by what stands at the place
 

@@ -84,8 +84,8 @@ fn link_of(order: Order, bytes: &[u8]) -> u16
     (order.number32(bytes, 20) % 65536) as u16
 }
 
-// The link types whose frames are understood.
-fn is_link(link: u16) -> bool
+/// Whether frames of this link type are understood: NULL, ETHERNET, RAW, LINUX_SLL, IPV4, IPV6 and LINUX_SLL2.
+pub fn is_link(link: u16) -> bool
     ensures { result ≡ link_test link }
 {
     matches!(link, 0 | 1 | 101 | 113 | 228 | 229 | 276)

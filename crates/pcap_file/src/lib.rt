@@ -16,7 +16,9 @@ mod write;
 
 pub use fault::CaptureFault;
 pub use frame::datagram;
-pub use pcap::{Pcap, open_capture};
+pub use header::is_link;
+pub use order::Order;
+pub use pcap::{Opened, Pcap, open_any, open_capture};
 pub use record::{MAX_LENGTH, MAX_RECORDS, PcapRecord};
 pub use udp::{Datagram, Skip};
 pub use write::{header_bytes, record_bytes};

@@ -5,7 +5,7 @@ use byteorder::{BigEndian, ByteOrder, LittleEndian};
 
 /// Which byte of a number comes first.
 #[derive(Clone, Copy, Debug, PartialEq, Eq)]
-pub(crate) enum Order {
+pub enum Order {
     /// The lowest.
     Little,
     /// The highest.
@@ -34,6 +34,17 @@ impl Order {
         match self {
             Order::Little => LittleEndian::read_u32(&bytes[place..]),
             Order::Big => BigEndian::read_u32(&bytes[place..]),
+        }
+    }
+
+    /// The number in the eight bytes from a place on.
+    pub fn number64(self, bytes: &[u8], place: usize) -> u64
+        requires { place + 8 ≤ length bytes.now }
+        ensures { result ≡ number_at self 8 place bytes.now }
+    {
+        match self {
+            Order::Little => LittleEndian::read_u64(&bytes[place..]),
+            Order::Big => BigEndian::read_u64(&bytes[place..]),
         }
     }
 }

@@ -2,7 +2,7 @@
 ghost use Rattle.std.specs.Prelude.{◌≡◌, ◌<◌, ◌≤◌, ◌^◌, ◌-◌, IsTrue, None, IfSome, length};
 ghost use Rattle.rtp_io.specs.Outside.{SameDisk};
 ghost use Rattle.pcap_file.specs.Faults.{HasCaptureCause, fault_of};
-ghost use Rattle.pcap_file.specs.Reading.{AfterOpen, AfterNext};
+ghost use Rattle.pcap_file.specs.Reading.{AfterOpen, AfterOpenAny, AfterNext};
 
 use crate::fault::CaptureFault;
 use crate::header::{Format, read_header};
@@ -55,6 +55,53 @@ pub fn open_capture<F: Files>(files: &mut F, pull: &mut Pull) -> Result<Pcap, Ca
         }),
         Err(fault) => Err(fault),
     }
+}
+
+/// A capture of either form.
+#[derive(Drop)]
+pub enum Opened {
+    /// A capture in the pcap savefile format.
+    Pcap(Pcap),
+    /// A pcapng file, of whose first block these bytes were taken.
+    Ng { head: [u8; 24] },
+}
+
+/// Reads the first 24 bytes of the open file: the file header of a pcap capture, or the beginning of a pcapng
+/// file. Every other answer is that of `open_capture`.
+pub fn open_any<F: Files>(files: &mut F, pull: &mut Pull) -> Result<Opened, CaptureFault>
+    requires countable { F.faults files.old < 2 ^ 64 - 1 }
+    ensures same { SameDisk (F.disk files.old) (F.disk files.new) }
+    ensures opened { IsTrue (F.disk files.old).told → (F.disk files.new).opened ≡ (F.disk files.old).opened }
+    ensures bound { length pull.new ≤ 262160 }
+    ensures after { AfterOpenAny result pull.old pull.new (F.disk files.old) (F.disk files.new) }
+    ensures cause { HasCaptureCause (F.faults files.old) (F.faults files.new) result }
+{
+    let head = match pull.need(files, 24) {
+        Ok(bytes) => copied(bytes),
+        Err(PullFault::End { .. }) => return Err(CaptureFault::CutHeader),
+        Err(PullFault::ReadFault) => return Err(CaptureFault::ReadFault),
+    };
+    if head.starts_with(&[0x0a, 0x0d, 0x0d, 0x0a]) {
+        return Ok(Opened::Ng { head });
+    }
+    match read_header(&head) {
+        Ok(format) => Ok(Opened::Pcap(Pcap {
+            format,
+            count: 0,
+            offset: 24,
+            fault: None,
+        })),
+        Err(fault) => Err(fault),
+    }
+}
+
+fn copied(bytes: &[u8]) -> [u8; 24]
+    requires { length bytes.now ≡ 24 }
+    ensures { result ≡ bytes.now }
+{
+    let mut head = [0; 24];
+    head.copy_from_slice(bytes);
+    head
 }
 
 impl Pcap {

@@ -1,7 +1,7 @@
 //! Captures and frames whose bytes come from outside.
 use crate::fault::CaptureFault;
 use crate::frame::datagram;
-use crate::pcap::open_capture;
+use crate::pcap::{Opened, open_any, open_capture};
 use crate::record::PcapRecord;
 use crate::udp::Skip;
 use crate::write::{header_bytes, record_bytes};
@@ -191,6 +191,30 @@ fn captures(rt: HostRuntime) -> Result<(), Fail> {
         capture[place] = value;
         assert!(rt; size <= capture.len());
         assert_eq!(rt; outcome(alloc, &capture[..size])?, want, "at {i}");
+    }
+    Ok(())
+}
+
+#[test]
+fn either_form(rt: HostRuntime) -> Result<(), Fail> {
+    let alloc = rt.alloc();
+    let mut files = MemoryFiles::new(alloc)?;
+    files.add(alloc, "pcap", &header_bytes(1))?;
+    files.add(
+        alloc,
+        "pcapng",
+        &[
+            0x0a, 0x0d, 0x0d, 0x0a, 28, 0, 0, 0, 0x4d, 0x3c, 0x2b, 0x1a, 1, 0, 0, 0, 1, 2, 3, 4, 5,
+            6, 7, 8,
+        ],
+    )?;
+    let mut pull = Pull::new(alloc)?;
+    files.open_file("pcap")?;
+    assert!(rt; matches!(open_any(&mut files, &mut pull), Ok(Opened::Pcap(_))));
+    files.open_file("pcapng")?;
+    match open_any(&mut files, &mut pull) {
+        Ok(Opened::Ng { head }) => assert_eq!(rt; (head[20], head[23]), (5, 8)),
+        _ => return Err(Fail::from("no pcapng file")),
     }
     Ok(())
 }

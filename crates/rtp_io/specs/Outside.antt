@@ -1,5 +1,5 @@
 -- What is known of files and sinks, and what their calls do to it.
-use Rattle.std.specs.Prelude.{◌≡◌, ◌<◌, ◌≤◌, ℕ, Bool, List, [], ◌++◌, length, take, Option, Some, None, Result, MatchResult}
+use Rattle.std.specs.Prelude.{All, ◌≡◌, ◌<◌, ◌≤◌, ℕ, Bool, List, [], ◌++◌, length, take, Option, Some, None, Result, MatchResult}
 
 -- The fields contents, opened and left are claims only where told is true.
 pub record Disk : Type 0 where
@@ -20,10 +20,15 @@ pub record SameDisk (old new : Disk) : Type 0 where
   pub may_open : new.may_open ≡ old.may_open
   pub contents : new.contents ≡ old.contents
 
+-- numbers as a file has them
+abbrev pub AreBytes : List ℕ → Type 0
+AreBytes bytes = All (λ b. b < 256) bytes
+
 -- the file of this name is open, and all of it is left
 pub record IsOpened (name : List ℕ) (disk : Disk) : Type 0 where
   pub opened : disk.opened ≡ Some name
   pub all : disk.left ≡ disk.contents name
+  pub bytes : AreBytes disk.left
 
 pub record IsClosed (disk : Disk) : Type 0 where
   pub opened : disk.opened ≡ None

@@ -1,6 +1,7 @@
 //! Named contents in memory, of which one at a time is open.
-ghost use Rattle.std.specs.Prelude.{◌≡◌, ◌<◌, ◌≤◌, ◌+◌, ◌^◌, ◌||◌, ℕ, List, Bool, true, false, None, IfNone, IfSome, OnOk, OnErr, length, take, drop, min, vec_len, bytes_eq};
+ghost use Rattle.std.specs.Prelude.{◌≡◌, ◌<◌, ◌≤◌, ◌+◌, ◌^◌, ◌||◌, ℕ, List, Bool, true, false, None, IfNone, IfOk, IfSome, OnOk, OnErr, length, take, drop, min, vec_len, bytes_eq};
 ghost use Rattle.std.specs.Option.{ForSome};
+ghost use Rattle.rtp_io.specs.Outside.{AreBytes};
 
 use crate::step::at_most;
 use rtp_units::OutOfMemory;
@@ -11,6 +12,7 @@ use std::alloc::Global;
 pub(crate) struct Entry {
     pub name: String,
     pub bytes: Vec<u8>,
+    ghost small: { AreBytes bytes.items },
 }
 
 /// Files in memory. The place of the open one counts from 0, and the position in it tells how many of its
@@ -53,7 +55,7 @@ impl Shelf {
         ensures step { self.new.step ≡ self.old.step }
     {
         let name = String::from_str(alloc, name)?;
-        let bytes = Vec::from_slice(alloc, bytes)?;
+        let bytes = copy_of(alloc, bytes)?;
         self.entries.push(Entry { name, bytes })?;
         Ok(())
     }
@@ -125,6 +127,18 @@ impl Shelf {
         self.position = moved(position, size);
         size
     }
+}
+
+// A copy that is made byte by byte, so that its numbers are known to be bytes.
+fn copy_of(alloc: Global, bytes: &[u8]) -> Result<Vec<u8>, OutOfMemory>
+    ensures items { IfOk result (λ copy. copy.items ≡ bytes.now) }
+    ensures small { IfOk result (λ copy. AreBytes copy.items) }
+{
+    let mut copy = Vec::with_capacity(alloc, bytes.len())?;
+    for byte in bytes {
+        copy.push(*byte)?;
+    }
+    Ok(copy)
 }
 
 fn rest_of(bytes: &[u8], position: usize) -> &[u8]

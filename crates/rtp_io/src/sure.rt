@@ -1,5 +1,5 @@
 //! Files and bytes in memory that never fail.
-ghost use Rattle.std.specs.Prelude.{◌≡◌, ◌<◌, ◌≤◌, ◌+◌, ◌-◌, ◌^◌, ◌||◌, [], ℕ, List, None, Some, false, IfOk, OnOk, OnErr, length, take, min, bytes_eq, unwrap_or};
+ghost use Rattle.std.specs.Prelude.{◌≡◌, ◌<◌, ◌≤◌, ◌+◌, ◌-◌, ◌^◌, ◌||◌, [], ℕ, List, None, Some, IsTrue, false, IfOk, OnOk, OnErr, length, take, min, bytes_eq, unwrap_or};
 
 use crate::outside::{Failed, Files, Sink};
 use crate::shelf::Shelf;
@@ -14,7 +14,7 @@ pub struct SureFiles {
 }
 
 impl Files for SureFiles {
-    ghost use Rattle.rtp_io.specs.Outside.{SameDisk, Gives, Stays, HasCause};
+    ghost use Rattle.rtp_io.specs.Outside.{SameDisk, IsOpened, IsClosed, Gives, Stays, HasCause};
     ghost use Rattle.rtp_io.specs.Memory.{held_to};
     ghost use Rattle.rtp_io.specs.Objects.{sure_disk, sure_step};
 
@@ -22,7 +22,16 @@ impl Files for SureFiles {
 
     ghost faults = { λ _. 0 };
 
-    fn open_file(&mut self, name: &str) -> Result<(), Failed> {
+    fn open_file(&mut self, name: &str) -> Result<(), Failed>
+        requires may_open { IsTrue ((sure_disk self.old).may_open name.now) }
+        ensures same { SameDisk (sure_disk self.old) (sure_disk self.new) }
+        ensures opened { OnOk result (IsOpened name.now (sure_disk self.new)) }
+        ensures closed { OnErr result (IsClosed (sure_disk self.new)) }
+        ensures cause { HasCause 0 0 result }
+
+        // The step stays.
+        ensures step { sure_step self.new ≡ sure_step self.old }
+    {
         if self.shelf.open(name) {
             Ok(())
         } else {

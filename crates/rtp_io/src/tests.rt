@@ -66,8 +66,8 @@ fn writes(rt: HostRuntime) -> Result<(), Fail> {
 
     let mut files = SureFiles::new(alloc)?;
     files.add(alloc, "one", b"abc")?;
-    files.open_file("one")?;
     files.set_step(2);
+    files.open_file("one")?;
     let mut buf = [0u8; 8];
     assert_eq!(rt; files.read(&mut buf)?, 2);
     assert_eq!(rt; files.left(), b"c".as_slice());
@@ -87,6 +87,11 @@ fn host(rt: HostRuntime) -> Result<(), Fail> {
     assert_eq!(rt; files.read(&mut buf)?, 0);
     fs::remove_file(&rt, name)?;
     assert!(rt; files.open_file(name).is_err());
+
+    // A folder can be opened, but gives no bytes.
+    let mut folder = HostFiles::new(&rt);
+    folder.open_file(".")?;
+    assert!(rt; folder.read(&mut buf).is_err());
 
     let mut out = HostSink::new(alloc, &rt, Stream::Output)?;
     assert!(rt; write_piece(&mut out, b"gathered\n").is_ok());

@@ -3,7 +3,7 @@ use Rattle.std.proofs.Common.{◌≡◌, ℕ, ◌-◌, Bool, true, false, List, 
 use Rattle.std.specs.Prelude.{bytes_eq, if◌then◌else◌}
 use Rattle.std.proofs.lemmas.List.{length-append, take_at}
 use Rattle.std.proofs.lemmas.Slice.Eq.{bytes_eq-Decides}
-use Rattle.rtp_io.specs.Outside.{Disk, SameDisk, IsOpened, IsClosed, Adds, AddsFront}
+use Rattle.rtp_io.specs.Outside.{AreBytes, Disk, SameDisk, IsOpened, IsClosed, Adds, AddsFront}
 use Rattle.rtp_io.specs.Laws.{told_then, adds_none, adds_same}
 use Rattle.pcap_file.specs.Capture.{capture_of}
 use Rattle.rtpbin_cli.specs.declared.script.ScriptFault.{ScriptFault}
@@ -14,8 +14,9 @@ use Rattle.rtpbin_cli.specs.Chosen.{Chosen}
 use Rattle.rtpbin_cli.specs.Script.{script_of}
 use Rattle.rtpbin_cli.specs.Output.{Output, output_of}
 use Rattle.rtpbin_cli.specs.Commands.{output_by, replay_by, replay_output}
-use Rattle.rtpbin_cli.specs.Outcome.{AreBytes, BadScript, Written, want_from, given_from, stop_from, wanted_of, out_of, stop_of, given_of, part_from, read_out}
-use Rattle.rtpbin_cli.specs.Steps.{ReadsScript, Covers, Runs}
+use Rattle.rtpbin_cli.specs.Outcome.{Wanted, BadScript, Written, HasTaken, want_from, given_from, stop_from, wanted_of, out_of, stop_of, given_of, part_from, read_out}
+use Rattle.rtpbin_cli.specs.Steps.{ReadsScript, Covers, TookFew, Runs}
+use Rattle.rtpbin_cli.specs.Taken.{TakesFew}
 use Rattle.rtpbin_cli.specs.Dump.{dump_output}
 use Rattle.rtpbin_cli.proofs.Replaying.{part_none as none_of_replay}
 use Rattle.rtpbin_cli.proofs.Dumping.{dump_goes_on}
@@ -50,12 +51,15 @@ read_closed form after closed =
     ∙ part_none (output_by after.contents form) [] (λ output is. (none_of_each after.contents form output is, no_records [] (omega arith)))
 
 -- the script is open, and perhaps it is the capture too
-script_given : BeginsNoCapture → (capture script : List ℕ) (chosen : Chosen) (after : Disk) → AreBytes (after.contents capture) → after.opened ≡ Some script → script_of (after.contents script) ≡ Ok chosen → (capture_of (given_of capture after)).records ≡ []
+script_given : BeginsNoCapture → (capture script : List ℕ) (chosen : Chosen) (after : Disk) → AreBytes (after.contents script) → after.opened ≡ Some script → script_of (after.contents script) ≡ Ok chosen → (capture_of (given_of capture after)).records ≡ []
 script_given law capture script chosen after bytes opened is =
     ap (λ (o : Option (List ℕ)). (capture_of (given_from capture after o)).records) opened ∙ at (bytes_eq script capture) refl
   where
     at : (b : Bool) → bytes_eq script capture ≡ b → (capture_of (if b then take (length (after.contents capture) - length after.left) (after.contents capture) else [])).records ≡ []
-    at true same = begins_no_capture law (after.contents capture) chosen (length (after.contents capture) - length after.left) bytes (subst (λ (n : List ℕ). script_of (after.contents n) ≡ Ok chosen) ((bytes_eq-Decides script capture).0 same) is)
+    at true same =
+        let name = (bytes_eq-Decides script capture).0 same in
+        begins_no_capture law (after.contents capture) chosen (length (after.contents capture) - length after.left)
+        (subst (λ (n : List ℕ). AreBytes (after.contents n)) name bytes) (subst (λ (n : List ℕ). script_of (after.contents n) ≡ Ok chosen) name is)
     at false same = no_records [] (omega arith)
 
 -- where a replay has an output, its script has no fault
@@ -63,42 +67,46 @@ chosen_by : (hex : Bool) (read : Result Chosen ScriptFault) (output : Output) �
 chosen_by hex (Ok chosen) output is = (chosen, refl)
 chosen_by hex (Err fault) output is = absurd cc
 
-read_script_out : BeginsNoCapture → (hex : Bool) (capture script : List ℕ) (after : Disk) → AreBytes (after.contents capture) → after.opened ≡ Some script → read_out (Some (Replay hex capture script)) after ≡ []
+read_script_out : BeginsNoCapture → (hex : Bool) (capture script : List ℕ) (after : Disk) → AreBytes (after.contents script) → after.opened ≡ Some script → read_out (Some (Replay hex capture script)) after ≡ []
 read_script_out law hex capture script after bytes opened =
     part_none (replay_by hex (script_of (after.contents script))) (given_of capture after)
     (λ output is. (none_of_each after.contents (Replay hex capture script) output is, let s = chosen_by hex (script_of (after.contents script)) output is in script_given law capture script s.0 after bytes opened s.1))
 
 -- ---- the parts
 
-pub script_stops : BeginsNoCapture → (hex : Bool) (capture script : List ℕ) (why : Stop) (before after : Disk) (old : Option (List ℕ)) → SameDisk before after → AreBytes (before.contents capture) → ReadsScript (Err why) script before after → IsTrue before.told
+pub script_stops : BeginsNoCapture → (hex : Bool) (capture script : List ℕ) (why : Stop) (before after : Disk) (old : Option (List ℕ)) → SameDisk before after → ReadsScript (Err why) script before after → IsTrue before.told
     → Runs (Err why) (wanted_of before.contents (Replay hex capture script)) (Some (Replay hex capture script)) after old old
-script_stops law hex capture script (stop.Script fault) before after old same bytes is told =
+script_stops law hex capture script (stop.Script fault) before after old same is told =
     let c = capture_of (before.contents capture) in
     let w : want_from (replay_by hex (script_of (before.contents script))) c ≡ BadScript fault = ap (λ (r : Result Chosen ScriptFault). want_from (replay_by hex r) c) (is told) in
     (ap stop_of w, adds_same [] (out_of (wanted_of before.contents (Replay hex capture script))) old old (sym (ap out_of w)) (adds_none old))
-script_stops law hex capture script stop.Read before after old same bytes is told = elim (is told) [
+script_stops law hex capture script stop.Read before after old same is told = elim (is told) [
   | inl closed ↦ adds_same [] (read_out (Some (Replay hex capture script)) after) old old (sym (read_closed (Replay hex capture script) after closed)) (adds_none old)
-  | inr opened ↦ adds_same [] (read_out (Some (Replay hex capture script)) after) old old (sym (read_script_out law hex capture script after (subst (λ (f : List ℕ → List ℕ). AreBytes (f capture)) (sym same.contents) bytes) opened)) (adds_none old)
+  | inr opened ↦ adds_same [] (read_out (Some (Replay hex capture script)) after) old old (sym (read_script_out law hex capture script after opened.1 opened.0)) (adds_none old)
 ]
-script_stops law hex capture script stop.Memory before after old same bytes is told = front_none (out_of (wanted_of before.contents (Replay hex capture script))) old
-script_stops law hex capture script stop.Usage before after old same bytes is told = absurd is
-script_stops law hex capture script stop.Write before after old same bytes is told = absurd is
-script_stops law hex capture script (stop.Capture fault) before after old same bytes is told = absurd is
+script_stops law hex capture script stop.Memory before after old same is told = front_none (out_of (wanted_of before.contents (Replay hex capture script))) old
+script_stops law hex capture script stop.Usage before after old same is told = absurd is
+script_stops law hex capture script stop.Write before after old same is told = absurd is
+script_stops law hex capture script (stop.Capture fault) before after old same is told = absurd is
 
 pub open_fails : (form : Form) (after : Disk) (old : Option (List ℕ)) → IsClosed after → Adds (read_out (Some form) after) old old
 open_fails form after old closed = adds_same [] (read_out (Some form) after) old old (sym (read_closed form after closed.opened)) (adds_none old)
+
+-- what the open file gave
+given_bytes : (name : List ℕ) (start after : Disk) (given : List ℕ) → start.left ≡ given ++ after.left → after.contents name ≡ start.left → after.opened ≡ Some name → given_of name after ≡ given
+given_bytes name start after given all contents opened =
+    let whole : after.contents name ≡ given ++ after.left = contents ∙ all in
+    let len : length (given ++ after.left) - length after.left ≡ length given = omega (arith, length-append given after.left) in
+    let cut : take (length (after.contents name) - length after.left) (after.contents name) ≡ given =
+    ap (λ (l : List ℕ). take (length l - length after.left) l) whole ∙ ap (λ (n : ℕ). take n (given ++ after.left)) len ∙ take_at given after.left (length given) refl in
+    ap (λ (o : Option (List ℕ)). given_from name after o) opened ∙ ap (λ (b : Bool). if b then take (length (after.contents name) - length after.left) (after.contents name) else []) ((bytes_eq-Decides name name).1 refl) ∙ cut
 
 -- what was given of the capture
 given_is : (form : Form) (output : Output) (start after : Disk) (given : List ℕ) → start.left ≡ given ++ after.left → after.contents (capture_name form) ≡ start.left → after.opened ≡ Some (capture_name form)
     → output_by after.contents form ≡ Ok output → read_out (Some form) after ≡ output.part (capture_of given).records
 given_is form output start after given all contents opened by =
     let name = capture_name form in
-    let whole : after.contents name ≡ given ++ after.left = contents ∙ all in
-    let len : length (given ++ after.left) - length after.left ≡ length given = omega (arith, length-append given after.left) in
-    let cut : take (length (after.contents name) - length after.left) (after.contents name) ≡ given =
-    ap (λ (l : List ℕ). take (length l - length after.left) l) whole ∙ ap (λ (n : ℕ). take n (given ++ after.left)) len ∙ take_at given after.left (length given) refl in
-    let part : given_from name after after.opened ≡ given =
-    ap (λ (o : Option (List ℕ)). given_from name after o) opened ∙ ap (λ (b : Bool). if b then take (length (after.contents name) - length after.left) (after.contents name) else []) ((bytes_eq-Decides name name).1 refl) ∙ cut in
+    let part : given_of name after ≡ given = given_bytes name start after given all contents opened in
     ap (λ (r : Result Output ScriptFault). part_from r (given_of name after)) by ∙ ap (λ (l : List ℕ). output.part (capture_of l).records) part
 
 -- the capture was opened, and its lines went out
@@ -122,6 +130,12 @@ capture_runs form output result before start after old new told same same' by op
     front : AddsFront (output_of output (capture_of start.left)) old new → AddsFront (out_of (wanted_of before.contents form)) old new
     front f = subst (λ (l : List ℕ). AddsFront l old new) (sym (ap out_of w)) f
 
+    took : TookFew output start after old new → HasTaken (wanted_of before.contents form) (Some form) after old new
+    took t =
+        let given : given_of (capture_name form) after ≡ t.taken =
+        given_bytes (capture_name form) start after t.taken t.all (ap (λ (f : List ℕ → List ℕ). f (capture_name form)) contents ∙ sym left) (kept here ∙ opened.opened) in
+        subst (λ (want : Wanted). HasTaken want (Some form) after old new) (sym w) (subst (λ (l : List ℕ). TakesFew output (capture_of start.left).records l old new) (sym given) t.few)
+
     at : (result : Result (Unit {0}) Stop) → Covers output result start after old new → Runs result (wanted_of before.contents form) (Some form) after old new
     at (Ok x) h = (ap stop_of w ∙ ap stop_from (h here).0, adds_same (output_of output (capture_of start.left)) _ old new (sym (ap out_of w)) (h here).1)
     at (Err (stop.Capture fault)) h = (ap stop_of w ∙ ap stop_from (h here).0, adds_same (output_of output (capture_of start.left)) _ old new (sym (ap out_of w)) (h here).1)
@@ -129,7 +143,7 @@ capture_runs form output result before start after old new told same same' by op
         let g = h here in
         adds_same (output.part (capture_of g.given).records) (read_out (Some form) after) old new
         (sym (given_is form output start after g.given g.all (ap (λ (f : List ℕ → List ℕ). f (capture_name form)) contents ∙ sym left) (kept here ∙ opened.opened) (ap (λ (f : List ℕ → List ℕ). output_by f form) contents ∙ by))) g.written
-    at (Err stop.Write) h = front (h here)
+    at (Err stop.Write) h = (front (h here).0, took (h here).1)
     at (Err stop.Memory) h = front (h here)
     at (Err stop.Usage) h = absurd h
     at (Err (stop.Script fault)) h = absurd h

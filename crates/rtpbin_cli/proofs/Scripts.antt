@@ -5,7 +5,7 @@ use Rattle.std.specs.List.{starts_with}
 use Rattle.std.proofs.lemmas.Bool.{lt-ltb, cases_lt}
 use Rattle.std.proofs.lemmas.Grind.{common_steps}
 use Rattle.std.proofs.lemmas.List.{append-nil, length-append, length-take-le, length-take}
-use Rattle.rtp_io.specs.Outside.{Disk}
+use Rattle.rtp_io.specs.Outside.{AreBytes, Disk}
 use Rattle.rtp_io.specs.Pulled.{FillsFrom}
 use Rattle.pcap_file.specs.declared.fault.CaptureFault.TheVariants.{CutHeader, Pcapng}
 use Rattle.pcap_file.specs.declared.order.Order.{Order}
@@ -22,7 +22,6 @@ use Rattle.rtpbin_cli.specs.Chosen.{Chosen}
 use Rattle.rtpbin_cli.specs.Script.{script_of, script_from}
 use Rattle.rtpbin_cli.specs.declared.stop.Stop.{Stop}
 use Rattle.rtpbin_cli.specs.declared.stop.Stop.TheVariants as stop
-use Rattle.rtpbin_cli.specs.Outcome.{AreBytes}
 use Rattle.rtpbin_cli.specs.Steps.{HasStopCause, ReadsScript, ReadsText}
 
 script_big : (text : List ℕ) → 1048576 < length text → script_of text ≡ Err (record { line = 0; cause = Language Size })

@@ -1,5 +1,6 @@
 pub mod Words
 pub mod Output
+pub mod Taken
 pub mod Clock
 pub mod Chosen
 pub mod Script

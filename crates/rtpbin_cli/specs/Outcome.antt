@@ -1,5 +1,5 @@
 -- How a run ends: what the input calls for, and what an answer says.
-use Rattle.std.specs.Prelude.{All, ◌≡◌, ◌<◌, ◌⊎◌, ℕ, ◌-◌, IsTrue, List, [], ◌++◌, length, take, codes, Option, Some, None, Result, Ok, Err, bytes_eq, if◌then◌else◌}
+use Rattle.std.specs.Prelude.{◌≡◌, ◌≢◌, ◌<◌, ◌⊎◌, ℕ, ◌-◌, IsTrue, List, [], ◌++◌, length, take, codes, Option, Some, None, Result, Ok, Err, bytes_eq, if◌then◌else◌}
 use Rattle.std.specs.Fmt.{decimal}
 use Rattle.rtp_io.specs.Outside.{Disk, Adds, AddsFront}
 use Rattle.pcap_file.specs.declared.fault.CaptureFault.{CaptureFault}
@@ -15,6 +15,7 @@ use Rattle.rtpbin_cli.specs.declared.script.ScriptCause.TheVariants as causes
 use Rattle.script_lang.specs.Causes.{word_of as word_for}
 use Rattle.rtpbin_cli.specs.Words.{Form, Replay, Dump, capture_name}
 use Rattle.rtpbin_cli.specs.Output.{Output, output_of}
+use Rattle.rtpbin_cli.specs.Taken.{TakesFew}
 use Rattle.rtpbin_cli.specs.Commands.{output_by}
 
 -- ---- what the words, the script and the capture call for
@@ -124,14 +125,10 @@ MayOpen None disk = Unit {0}
 MayOpen (Some (Replay hex capture script)) disk = IsTrue (disk.may_open script) × IsTrue (disk.may_open capture)
 MayOpen (Some (Dump capture)) disk = IsTrue (disk.may_open capture)
 
--- bytes as numbers
-abbrev pub AreBytes : List ℕ → Type 0
-AreBytes bytes = All (λ b. b < 256) bytes
-
--- what is opened is told, and the capture is a list of bytes; or nothing is opened
+-- what is opened is told, or nothing is opened
 abbrev pub Knows : Option Form → Disk → Type 0
 Knows None disk = Unit {0}
-Knows (Some form) disk = IsTrue disk.told × AreBytes (disk.contents (capture_name form))
+Knows (Some form) disk = IsTrue disk.told
 
 -- A read failed exactly where the count of the files rose, and a write where that of a sink did.
 abbrev pub HasStatusCause : Status → ℕ → ℕ → ℕ → ℕ → ℕ → ℕ → Type 0
@@ -161,24 +158,53 @@ HasOut status.Write want form after old new = IsFront want form after old new
 HasOut status.Memory want form after old new = IsFront want form after old new
 HasOut answer want form after old new = Adds (out_of want) old new
 
--- a text that a run writes to the errors
-abbrev pub IsText : Wanted → List ℕ → Type 0
-IsText want text = (text ≡ err_of want) ⊎ ((text ≡ text_of stop.Read) ⊎ (text ≡ memory_text))
+-- what was taken from the capture, where its lines could not all be written
+abbrev pub HasTaken : Wanted → Option Form → Disk → Option (List ℕ) → Option (List ℕ) → Type 0
+HasTaken (Written output capture) (Some form) after old new = TakesFew output capture.records (given_of (capture_name form) after) old new
+HasTaken want form after old new = Unit {0}
 
--- what was added to the errors; o and o' are the faults of the output before and after
-abbrev pub HasErr : Status → Wanted → ℕ → ℕ → Option (List ℕ) → Option (List ℕ) → Type 0
-HasErr status.Read want o o' old new = Adds (text_of stop.Read) old new
-HasErr status.Write want o o' old new = ((o < o') × Adds [] old new) ⊎ ((o' ≡ o) × ((text : List ℕ) × IsText want text × AddsFront text old new))
-HasErr status.Memory want o o' old new = Adds memory_text old new
-HasErr answer want o o' old new = Adds (err_of want) old new
+-- why a run may stop with a text of its own: no form of words, a failed read, or what else the files have; f and f' are the faults of the files before and after
+abbrev pub MayStop : Option Form → ℕ → ℕ → Stop → Type 0
+MayStop form f f' stop.Usage = (form ≡ None) × (f' ≡ f)
+MayStop form f f' (stop.Script fault) = (form ≢ None) × (f' ≡ f)
+MayStop form f f' (stop.Capture fault) = (form ≢ None) × (f' ≡ f)
+MayStop form f f' stop.Read = f < f'
+MayStop form f f' stop.Memory = Unit {0}
+MayStop form f f' stop.Write = ⊥
 
--- the texts that hang on nothing, and none
-abbrev pub HasFixedErr : Status → Option (List ℕ) → Option (List ℕ) → Type 0
-HasFixedErr status.Done old new = Adds [] old new
-HasFixedErr status.Usage old new = Adds usage_text old new
-HasFixedErr status.Read old new = Adds (text_of stop.Read) old new
-HasFixedErr status.Memory old new = Adds memory_text old new
-HasFixedErr answer old new = Unit {0}
+-- the same where the input is known: a stop for what it has is the one that it calls for
+abbrev pub MustStop : Wanted → ℕ → ℕ → Stop → Type 0
+MustStop want f f' stop.Read = f < f'
+MustStop want f f' stop.Memory = Unit {0}
+MustStop want f f' stop.Write = ⊥
+MustStop want f f' why = (stop_of want ≡ Some why) × (f' ≡ f)
+
+-- The text of such a stop was being written, and a front of it is there.
+pub record CutText (Stops : Stop → Type 0) (old new : Option (List ℕ)) : Type 0 where
+  pub why : Stop
+  pub stops : Stops why
+  pub front : AddsFront (text_of why) old new
+
+-- What was added to the errors where a write failed: nothing if it was one of the output, whose faults were o before and o' after.
+abbrev pub HasCutErr : (Stop → Type 0) → ℕ → ℕ → Option (List ℕ) → Option (List ℕ) → Type 0
+HasCutErr Stops o o' old new = ((o < o') × Adds [] old new) ⊎ ((o' ≡ o) × CutText Stops old new)
+
+-- what was added to the errors, where the input is known
+abbrev pub HasErr : Status → Wanted → ℕ → ℕ → ℕ → ℕ → Option (List ℕ) → Option (List ℕ) → Type 0
+HasErr status.Read want f f' o o' old new = Adds (text_of stop.Read) old new
+HasErr status.Write want f f' o o' old new = HasCutErr (MustStop want f f') o o' old new
+HasErr status.Memory want f f' o o' old new = Adds memory_text old new
+HasErr answer want f f' o o' old new = Adds (err_of want) old new
+
+-- and where it is not
+abbrev pub HasSomeErr : Status → Option Form → ℕ → ℕ → ℕ → ℕ → Option (List ℕ) → Option (List ℕ) → Type 0
+HasSomeErr status.Done form f f' o o' old new = Adds [] old new
+HasSomeErr status.Usage form f f' o o' old new = Adds usage_text old new
+HasSomeErr status.Script form f f' o o' old new = (fault : ScriptFault) × Adds (text_of (stop.Script fault)) old new
+HasSomeErr status.Read form f f' o o' old new = Adds (text_of stop.Read) old new
+HasSomeErr status.Capture form f f' o o' old new = (fault : CaptureFault) × Adds (text_of (stop.Capture fault)) old new
+HasSomeErr status.Write form f f' o o' old new = HasCutErr (MayStop form f f') o o' old new
+HasSomeErr status.Memory form f f' o o' old new = Adds memory_text old new
 
 -- words of no form end so, unless the text could not be made or written
 abbrev pub IsUsageOr : Status → Type 0

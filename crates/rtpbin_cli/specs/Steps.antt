@@ -1,6 +1,6 @@
 -- What the steps of a run promise each other.
 use Rattle.std.specs.Prelude.{◌≡◌, ◌≢◌, ◌<◌, ◌⊎◌, ℕ, IsTrue, List, [], ◌++◌, Option, Some, None, Result, Ok, Err}
-use Rattle.rtp_io.specs.Outside.{Disk, Adds, AddsFront}
+use Rattle.rtp_io.specs.Outside.{AreBytes, Disk, Adds, AddsFront}
 use Rattle.pcap_file.specs.declared.fault.CaptureFault.{CaptureFault}
 use Rattle.pcap_file.specs.declared.fault.CaptureFault.TheVariants as faults
 use Rattle.pcap_file.specs.Capture.{capture_of}
@@ -12,7 +12,8 @@ use Rattle.rtpbin_cli.specs.Words.{Form}
 use Rattle.rtpbin_cli.specs.Chosen.{Chosen}
 use Rattle.rtpbin_cli.specs.Script.{script_of}
 use Rattle.rtpbin_cli.specs.Output.{Output, output_of}
-use Rattle.rtpbin_cli.specs.Outcome.{Wanted, out_of, stop_of, status_of_stop, text_of, memory_text, read_out}
+use Rattle.rtpbin_cli.specs.Taken.{TakesFew}
+use Rattle.rtpbin_cli.specs.Outcome.{Wanted, out_of, stop_of, status_of_stop, text_of, memory_text, read_out, HasTaken}
 
 -- what a fault of the capture ends a run with
 abbrev pub stop_of_fault : CaptureFault → Stop
@@ -55,12 +56,18 @@ pub record WroteGiven (output : Output) (before after : Disk) (old new : Option 
   pub all : before.left ≡ given ++ after.left
   pub written : Adds (output.part (capture_of given).records) old new
 
+-- the bytes that were taken before a line could not be written
+pub record TookFew (output : Output) (before after : Disk) (old new : Option (List ℕ)) : Type 0 where
+  pub taken : List ℕ
+  pub all : before.left ≡ taken ++ after.left
+  pub few : TakesFew output (capture_of before.left).records taken old new
+
 -- what goes out for the capture in the file that is open
 abbrev pub Covers : Output → Result (Unit {0}) Stop → Disk → Disk → Option (List ℕ) → Option (List ℕ) → Type 0
 Covers output (Ok x) before after old new = IsTrue before.told → ((capture_of before.left).fault ≡ None) × Adds (output_of output (capture_of before.left)) old new
 Covers output (Err (stop.Capture fault)) before after old new = IsTrue before.told → ((capture_of before.left).fault ≡ Some fault) × Adds (output_of output (capture_of before.left)) old new
 Covers output (Err stop.Read) before after old new = IsTrue before.told → WroteGiven output before after old new
-Covers output (Err stop.Write) before after old new = IsTrue before.told → AddsFront (output_of output (capture_of before.left)) old new
+Covers output (Err stop.Write) before after old new = IsTrue before.told → AddsFront (output_of output (capture_of before.left)) old new × TookFew output before after old new
 Covers output (Err stop.Memory) before after old new = IsTrue before.told → AddsFront (output_of output (capture_of before.left)) old new
 Covers output (Err stop.Usage) before after old new = ⊥
 Covers output (Err (stop.Script fault)) before after old new = ⊥
@@ -76,7 +83,7 @@ ReadsText (Err other) text = ⊥
 abbrev pub ReadsScript : Result Chosen Stop → List ℕ → Disk → Disk → Type 0
 ReadsScript (Ok chosen) name before after = IsTrue before.told → script_of (before.contents name) ≡ Ok chosen
 ReadsScript (Err (stop.Script fault)) name before after = IsTrue before.told → script_of (before.contents name) ≡ Err fault
-ReadsScript (Err stop.Read) name before after = IsTrue before.told → (after.opened ≡ None) ⊎ (after.opened ≡ Some name)
+ReadsScript (Err stop.Read) name before after = IsTrue before.told → (after.opened ≡ None) ⊎ ((after.opened ≡ Some name) × AreBytes (after.contents name))
 ReadsScript (Err stop.Memory) name before after = Unit {0}
 ReadsScript (Err stop.Usage) name before after = ⊥
 ReadsScript (Err stop.Write) name before after = ⊥
@@ -85,7 +92,7 @@ ReadsScript (Err (stop.Capture fault)) name before after = ⊥
 -- a run up to the text of its end, where the input is known
 abbrev pub Runs : Result (Unit {0}) Stop → Wanted → Option Form → Disk → Option (List ℕ) → Option (List ℕ) → Type 0
 Runs (Err stop.Read) want form after old new = Adds (read_out form after) old new
-Runs (Err stop.Write) want form after old new = AddsFront (out_of want) old new
+Runs (Err stop.Write) want form after old new = AddsFront (out_of want) old new × HasTaken want form after old new
 Runs (Err stop.Memory) want form after old new = AddsFront (out_of want) old new
 Runs (Err why) want form after old new = (stop_of want ≡ Some why) × Adds (out_of want) old new
 Runs (Ok x) want form after old new = (stop_of want ≡ None) × Adds (out_of want) old new

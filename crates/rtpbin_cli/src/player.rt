@@ -8,6 +8,7 @@ ghost use Rattle.bin_core.specs.Bins.{timed, BinStands};
 ghost use Rattle.rtpbin_cli.specs.Commands.{texts_of};
 ghost use Rattle.rtpbin_cli.specs.Plays.{LogGoesOn, PlaysMore, PlaysLast, time_behind};
 ghost use Rattle.rtpbin_cli.specs.Steps.{HasWriteCause, Prints};
+ghost use Rattle.rtpbin_cli.specs.Taken.{AddsMore};
 
 use crate::stop::Stop;
 use bin_core::{Bin, BinLine, Lines};
@@ -59,6 +60,7 @@ impl Player {
         ensures time { OnOk result (time_of self.new.bin ≡ time_behind (time_of self.old.bin) items.now) }
         ensures none { OnOk result (self.new.lines ≡ []) }
         ensures plays { LogGoesOn → PlaysMore result self.old self.new (map OfScript items.now) (O.written out.old) (O.written out.new) }
+        ensures more { AddsMore [] (O.written out.old) (O.written out.new) }
         ensures cause { HasWriteCause result (O.faults out.old) (O.faults out.new) }
     {
         for item in items {
@@ -80,6 +82,7 @@ impl Player {
         ensures time { time_of self.new.bin ≡ item.now.time }
         ensures none { OnOk result (self.new.lines ≡ []) }
         ensures plays { LogGoesOn → PlaysMore result self.old self.new (OfScript item.now ∷ []) (O.written out.old) (O.written out.new) }
+        ensures more { AddsMore [] (O.written out.old) (O.written out.new) }
         ensures cause { HasWriteCause result (O.faults out.old) (O.faults out.new) }
     {
         match self.bin.control(item, &mut self.lines) {
@@ -107,6 +110,7 @@ impl Player {
         ensures time { time_of self.new.bin ≡ time }
         ensures none { OnOk result (self.new.lines ≡ []) }
         ensures plays { LogGoesOn → PlaysMore result self.old self.new (OfCapture (timed time link rec.now) ∷ []) (O.written out.old) (O.written out.new) }
+        ensures more { AddsMore [] (O.written out.old) (O.written out.new) }
         ensures cause { HasWriteCause result (O.faults out.old) (O.faults out.new) }
     {
         let n = self.bin.records() + 1;
@@ -130,6 +134,7 @@ impl Player {
         requires none { self.old.lines ≡ [] }
         requires out { O.faults out.old < 2 ^ 64 - 1 }
         ensures plays { LogGoesOn → PlaysLast result self.old (map OfScript items.now) (O.written out.old) (O.written out.new) }
+        ensures more { AddsMore [] (O.written out.old) (O.written out.new) }
         ensures cause { HasWriteCause result (O.faults out.old) (O.faults out.new) }
     {
         match self.give_items(alloc, items, out) {

@@ -3,7 +3,7 @@ ghost use Rattle.std.specs.Prelude.{◌<◌};
 
 use crate::status::Status;
 use crate::tool::run_tool;
-use rtp_io::{MemoryFiles, MemorySink};
+use rtp_io::{MemoryFiles, MemorySink, PULL_BYTES};
 use rtp_units::OutOfMemory;
 use std::alloc::Global;
 use std::test::Fail;
@@ -262,5 +262,40 @@ fn failures(rt: HostRuntime) -> Result<(), Fail> {
     assert!(rt; done);
     let (status, size, is_front) = run_failing(alloc, 0, 0, 1)?;
     assert!(rt; status == Status::Done && size == STEADY_LOG.len() && is_front);
+    Ok(())
+}
+
+// What is left of a long capture where the first write fails, and how the run ends. Behind its first
+// record the capture has zeros.
+fn left_of_long(alloc: Global, words: &[String]) -> Result<(Status, usize), OutOfMemory> {
+    let mut capture = capture_of(alloc, &[(1, 0, 0)])?;
+    let rest: Vec<u8> = vec![in alloc; 0; 300_000]?;
+    capture.extend_from_slice(&rest)?;
+    let mut files = MemoryFiles::new(alloc)?;
+    files.add(alloc, "c", &capture)?;
+    files.add(alloc, "s", SCRIPT)?;
+    let mut out = MemorySink::with_room(alloc, 1000)?;
+    out.fail_at(1)?;
+    let mut err = MemorySink::with_room(alloc, 1000)?;
+    let status = run_tool(alloc, words, &mut files, &mut out, &mut err);
+    Ok((status, files.left().len()))
+}
+
+#[test]
+fn takes_no_more_than_it_holds(rt: HostRuntime) -> Result<(), Fail> {
+    let alloc = rt.alloc();
+    let mut words = Vec::new(alloc);
+    words.push(String::from_str(alloc, "dump")?)?;
+    words.push(String::from_str(alloc, "c")?)?;
+    let (status, left) = left_of_long(alloc, &words)?;
+    assert_eq!(rt; status, Status::Write);
+    assert!(rt; left >= 300_000 - PULL_BYTES);
+    let mut words = Vec::new(alloc);
+    words.push(String::from_str(alloc, "replay")?)?;
+    words.push(String::from_str(alloc, "c")?)?;
+    words.push(String::from_str(alloc, "s")?)?;
+    let (status, left) = left_of_long(alloc, &words)?;
+    assert_eq!(rt; status, Status::Write);
+    assert!(rt; left >= 300_000 - PULL_BYTES);
     Ok(())
 }

@@ -2,7 +2,7 @@
 ghost use Rattle.std.specs.Prelude.{◌≡◌, ◌≢◌, ◌⊎◌, ◌<◌, ◌-◌, ◌^◌, ◌≤◌, None, Some, IsTrue, IfOk, length};
 ghost use Rattle.rtp_io.specs.Outside.{SameDisk};
 ghost use Rattle.rtpbin_cli.specs.Words.{form_of, texts, Replay};
-ghost use Rattle.rtpbin_cli.specs.Outcome.{AreBytes, HasErr, HasFixedErr, HasOut, HasStatusCause, IsAnswer, IsUsageOr, Knows, MayOpen, status_of, stop_of, wanted, wanted_of};
+ghost use Rattle.rtpbin_cli.specs.Outcome.{HasErr, HasOut, HasSomeErr, HasTaken, HasStatusCause, IsAnswer, IsUsageOr, Knows, MayOpen, status_of, stop_of, wanted, wanted_of};
 ghost use Rattle.rtpbin_cli.specs.Steps.{HasStopCause, IsOfForm, IsUsage, ReadsScript, Reports, Runs, Told};
 
 use crate::dump::dump_open;
@@ -30,6 +30,9 @@ pub fn run_tool<F: Files, O: Sink, E: Sink>(
     requires out { O.faults out.old < 2 ^ 64 - 1 }
     requires err { E.faults err.old < 2 ^ 64 - 1 }
 
+    // The contents by name, what is told of them and which names may be opened stay.
+    ensures same { SameDisk (F.disk files.old) (F.disk files.new) }
+
     // A read failed exactly at Read, a write exactly at Write; both yield to Memory.
     ensures cause { HasStatusCause result (F.faults files.old) (F.faults files.new)
         (O.faults out.old) (O.faults out.new) (E.faults err.old) (E.faults err.new) }
@@ -38,27 +41,44 @@ pub fn run_tool<F: Files, O: Sink, E: Sink>(
     ensures taken { result ≢ Status.Write → O.faults out.new ≡ O.faults out.old }
 
     // The statuses that speak of the input are those that it calls for.
-    ensures answer { Knows (form_of (texts words.now)) (F.disk files.old) → IsAnswer result (wanted (F.disk files.old).contents (form_of (texts words.now))) }
+    ensures answer { Knows (form_of (texts words.now)) (F.disk files.old)
+        → IsAnswer result (wanted (F.disk files.old).contents (form_of (texts words.now))) }
 
-    // What was added to the output: all that goes out for the capture, the part of it before a fault, or a front.
-    ensures out { Knows (form_of (texts words.now)) (F.disk files.old) → HasOut result (wanted (F.disk files.old).contents (form_of (texts words.now)))
+    // What was added to the output: all that goes out for the capture, the part of it before a fault,
+    // or a front.
+    ensures out { Knows (form_of (texts words.now)) (F.disk files.old)
+        → HasOut result (wanted (F.disk files.old).contents (form_of (texts words.now)))
+        (form_of (texts words.now)) (F.disk files.new) (O.written out.old) (O.written out.new) }
+
+    // Where a write of it failed, what was taken from the capture passes the end of the first record
+    // whose lines are incomplete by `PULL_BYTES` at most.
+    ensures few { Knows (form_of (texts words.now)) (F.disk files.old)
+        → O.faults out.old < O.faults out.new
+        → HasTaken (wanted (F.disk files.old).contents (form_of (texts words.now)))
         (form_of (texts words.now)) (F.disk files.new) (O.written out.old) (O.written out.new) }
 
     // What was added to the errors.
-    ensures err { Knows (form_of (texts words.now)) (F.disk files.old) → HasErr result (wanted (F.disk files.old).contents (form_of (texts words.now)))
-        (O.faults out.old) (O.faults out.new) (E.written err.old) (E.written err.new) }
+    ensures err { Knows (form_of (texts words.now)) (F.disk files.old)
+        → HasErr result (wanted (F.disk files.old).contents (form_of (texts words.now)))
+        (F.faults files.old) (F.faults files.new) (O.faults out.old) (O.faults out.new)
+        (E.written err.old) (E.written err.new) }
 
     // Of files that tell nothing too: words of no form, exactly, unless memory or the error text fails.
     ensures usage { result ≡ Status.Usage → form_of (texts words.now) ≡ None }
     ensures no_form { form_of (texts words.now) ≡ None → IsUsageOr result }
 
-    // Of such files too: the texts that hang on nothing, and none.
-    ensures fixed { HasFixedErr result (E.written err.old) (E.written err.new) }
+    // Of such files too: the text of the status, or a front of the one that was being written.
+    ensures text { HasSomeErr result (form_of (texts words.now))
+        (F.faults files.old) (F.faults files.new) (O.faults out.old) (O.faults out.new)
+        (E.written err.old) (E.written err.new) }
 
     // Where nothing failed, the answer is the one that the input calls for, unless memory runs out.
     ensures complete { Knows (form_of (texts words.now)) (F.disk files.old)
-        → F.faults files.new ≡ F.faults files.old → O.faults out.new ≡ O.faults out.old → E.faults err.new ≡ E.faults err.old
-        → (result ≡ status_of (stop_of (wanted (F.disk files.old).contents (form_of (texts words.now))))) ⊎ (result ≡ Status.Memory) }
+        → F.faults files.new ≡ F.faults files.old → O.faults out.new ≡ O.faults out.old
+        → E.faults err.new ≡ E.faults err.old
+        → (result ≡ status_of (stop_of
+        (wanted (F.disk files.old).contents (form_of (texts words.now)))))
+        ⊎ (result ≡ Status.Memory) }
 {
     match run(alloc, words, files, out) {
         Ok(()) => Status::Done,
@@ -69,7 +89,8 @@ pub fn run_tool<F: Files, O: Sink, E: Sink>(
 // Writes the text of a stop, and answers the status.
 fn report<E: Sink>(alloc: Global, stop: Stop, err: &mut E) -> Status
     requires { E.faults err.old < 2 ^ 64 - 1 }
-    ensures { Reports result stop (E.written err.old) (E.written err.new) (E.faults err.old) (E.faults err.new) }
+    ensures { Reports result stop (E.written err.old) (E.written err.new)
+        (E.faults err.old) (E.faults err.new) }
 {
     match stop {
         Stop::Write => Status::Write,
@@ -82,7 +103,8 @@ fn report<E: Sink>(alloc: Global, stop: Stop, err: &mut E) -> Status
 
 fn tell<E: Sink>(status: Status, text: &[u8], err: &mut E) -> Status
     requires { E.faults err.old < 2 ^ 64 - 1 }
-    ensures { Told result status text.now (E.written err.old) (E.written err.new) (E.faults err.old) (E.faults err.new) }
+    ensures { Told result status text.now (E.written err.old) (E.written err.new)
+        (E.faults err.old) (E.faults err.new) }
 {
     match write_piece(err, text) {
         Ok(()) => status,
@@ -100,10 +122,13 @@ fn run<F: Files, O: Sink>(
     requires may_open { MayOpen (form_of (texts words.now)) (F.disk files.old) }
     requires files { F.faults files.old < 2 ^ 64 - 1 }
     requires out { O.faults out.old < 2 ^ 64 - 1 }
-    ensures runs { Knows (form_of (texts words.now)) (F.disk files.old) → Runs result (wanted (F.disk files.old).contents (form_of (texts words.now)))
+    ensures same { SameDisk (F.disk files.old) (F.disk files.new) }
+    ensures runs { Knows (form_of (texts words.now)) (F.disk files.old)
+        → Runs result (wanted (F.disk files.old).contents (form_of (texts words.now)))
         (form_of (texts words.now)) (F.disk files.new) (O.written out.old) (O.written out.new) }
     ensures usage { IsUsage result (form_of (texts words.now)) }
-    ensures cause { HasStopCause result (F.faults files.old) (F.faults files.new) (O.faults out.old) (O.faults out.new) }
+    ensures cause { HasStopCause result (F.faults files.old) (F.faults files.new)
+        (O.faults out.old) (O.faults out.new) }
 {
     match asked_by(words) {
         Some(
@@ -134,10 +159,14 @@ fn replay<F: Files, O: Sink>(
     requires capture { IsTrue ((F.disk files.old).may_open capture.now) }
     requires files { F.faults files.old < 2 ^ 64 - 1 }
     requires out { O.faults out.old < 2 ^ 64 - 1 }
-    ensures runs { IsTrue (F.disk files.old).told → AreBytes ((F.disk files.old).contents capture.now) → Runs result (wanted_of (F.disk files.old).contents (Replay hex capture.now script.now))
-        (Some (Replay hex capture.now script.now)) (F.disk files.new) (O.written out.old) (O.written out.new) }
+    ensures same { SameDisk (F.disk files.old) (F.disk files.new) }
+    ensures runs { IsTrue (F.disk files.old).told
+        → Runs result (wanted_of (F.disk files.old).contents (Replay hex capture.now script.now))
+        (Some (Replay hex capture.now script.now)) (F.disk files.new)
+        (O.written out.old) (O.written out.new) }
     ensures of_form { IsOfForm result }
-    ensures cause { HasStopCause result (F.faults files.old) (F.faults files.new) (O.faults out.old) (O.faults out.new) }
+    ensures cause { HasStopCause result (F.faults files.old) (F.faults files.new)
+        (O.faults out.old) (O.faults out.new) }
 {
     // A law for the proof: a script begins no capture. The call does nothing.
     begins_no_capture();

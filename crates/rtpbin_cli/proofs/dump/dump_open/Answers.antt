@@ -2,7 +2,7 @@ use Rattle.std.proofs.Common.{ℕ, ◌+◌, ◌∙◌, sym, ap, refl, lit<, Err}
 use Rattle.pcap_file.specs.declared.header.Format.{Format}
 use Rattle.pcap_file.specs.Reading.{record_view}
 use Rattle.rtpbin_cli.specs.Dump.{dump_output, line_of}
-use Rattle.rtpbin_cli.proofs.Progress.{begins, goes_on, open_stops, next_stops, done_ends, line_ends, stops_here, prints_cause}
+use Rattle.rtpbin_cli.proofs.Progress.{begins, goes_on, open_stops, next_stops, done_ends, line_ends, stops_here, prints_cause, prints_more}
 use Rattle.rtpbin_cli.proofs.Dumping.{took_next, took_front, took_last, dump_goes_on}
 use Rattle.rtpbin_cli.proofs.dump.dump_open.Goals as goal
 
@@ -28,7 +28,7 @@ returns-in-Err-print-clause-covers g c =
     let after = rw c.in-Ok-Some.field-0-is at (c.in-Ok-Some.ensures.after p.none) in
     let link = c.link.ensures ∙ ap (λ (format : Format). format.link) c.next.ensures.format in
     let line = c.in-Ok-line_of.ensures ∙ ap (λ (link : ℕ). line_of (c.records.records + 1) (record { time = c.pass-clock.result.time; captured = record_view link c.in-Ok-Some.entry })) link in
-    line_ends _ _ c.in-Err-print.stop _ _ _ _ _ _ _ r _ _ _ _ _ dump_goes_on p after
+    line_ends _ _ c.in-Err-print.stop _ _ _ _ _ _ _ r _ _ _ _ _ dump_goes_on p after (c.next.ensures.bound p.none) (prints_more _ (Err c.in-Err-print.stop) _ _ _ _ c.in-Err-print.ensures)
     (took_front c.records.records _ _ r _ c.in-Err-print.stop _ _ _ _ _ line c.pass-clock.ensures.passed c.in-Err-print.ensures)
     (prints_cause _ (Err c.in-Err-print.stop) _ _ _ _ c.in-Err-print.ensures)
 
@@ -52,7 +52,7 @@ pub returns-in-Ok-None-clause-covers : goal.returns-in-Ok-None-clause-covers
 returns-in-Ok-None-clause-covers g c =
     let p = c.records.invariant.progress in
     let after = rw c.in-Ok-None.field-0-is at (c.in-Ok-None.ensures.after p.none) in
-    done_ends _ _ c.print-in-Ok-None.result _ _ (g.F.Files.disk c.next.new.files) _ _ _ _ _ _ _ p after.finds
+    done_ends _ _ c.print-in-Ok-None.result _ _ (g.F.Files.disk c.next.new.files) _ _ _ _ _ _ _ _ dump_goes_on p after.finds after.keeps (prints_more _ c.print-in-Ok-None.result _ _ _ _ c.print-in-Ok-None.ensures)
     (took_last c.records.records _ c.print-in-Ok-None.result _ _ _ _ _ c.print-in-Ok-None.ensures) (prints_cause _ c.print-in-Ok-None.result _ _ _ _ c.print-in-Ok-None.ensures)
 
 pub returns-in-Err-next-clause-covers : goal.returns-in-Err-next-clause-covers

@@ -8,7 +8,7 @@ use Rattle.bin_core.specs.Bins.{timed, BinStands}
 use Rattle.rtpbin_cli.specs.Chosen.{Chosen}
 use Rattle.rtpbin_cli.specs.Commands.{replay_output}
 use Rattle.rtpbin_cli.specs.Plays.{LogGoesOn}
-use Rattle.rtpbin_cli.proofs.Progress.{begins, goes_on, open_stops, next_stops, done_ends, line_ends, fault_cause}
+use Rattle.rtpbin_cli.proofs.Progress.{begins, goes_on, open_stops, next_stops, done_ends, line_ends, fault_cause, more_then}
 use Rattle.rtpbin_cli.proofs.Items.{behind_is, due_is, due_count, due_are, due_time, left_are, few_given}
 use Rattle.rtpbin_cli.proofs.Replaying.{took_none, took_next, took_front, took_items, took_last, replay_goes_on}
 use Rattle.rtpbin_cli.proofs.replay.replay_open.Goals as goal
@@ -57,7 +57,7 @@ returns-in-Err-give_items-clause-covers g c =
     let r = record_view c.records.pcap.format.link c.in-Ok-Some.entry in
     let after = rw c.in-Ok-Some.field-0-is at (c.in-Ok-Some.ensures.after p.none) in
     let due = due_is c.pass-clock.result.time c.records.given c.count_to.result c.as_slice-items.result.now chosen.items same count in
-    line_ends (replay_output c.args.hex chosen) _ c.in-Err-give_items.stop _ _ _ _ _ _ _ r _ _ _ _ _ (replay_goes_on law c.args.hex chosen) p after
+    line_ends (replay_output c.args.hex chosen) _ c.in-Err-give_items.stop _ _ _ _ _ _ _ r _ _ _ _ _ (replay_goes_on law c.args.hex chosen) p after (c.next.ensures.bound p.none) c.give_items.ensures.more
     (took_items law c.args.hex chosen c.records.player c.give_items.new.self c.records.clock c.pass-clock.result c.records.given r _ c.in-Err-give_items.stop _ _ _ i.hex i.none due (c.in-Err-give_items.ensures.plays law) c.pass-clock.ensures.passed) c.in-Err-give_items.ensures.cause
 
 pub give_record-requires-clause-onward : goal.give_record-requires-clause-onward
@@ -83,7 +83,7 @@ returns-in-Err-give_record-clause-covers g c =
     let after = rw c.in-Ok-Some.field-0-is at (c.in-Ok-Some.ensures.after p.none) in
     let due = due_is c.pass-clock.result.time c.records.given c.count_to.result c.as_slice-items.result.now chosen.items same count in
     let now = ap (λ (link : ℕ). timed c.pass-clock.result.time link c.in-Ok-Some.entry) (c.link.ensures ∙ ap (λ (format : Format). format.link) c.next.ensures.format) in
-    line_ends (replay_output c.args.hex chosen) _ c.in-Err-give_record.stop _ _ _ _ _ _ _ r _ _ _ _ _ (replay_goes_on law c.args.hex chosen) p after
+    line_ends (replay_output c.args.hex chosen) _ c.in-Err-give_record.stop _ _ _ _ _ _ _ r _ _ _ _ _ (replay_goes_on law c.args.hex chosen) p after (c.next.ensures.bound p.none) (more_then _ _ _ c.give_items.ensures.more c.give_record.ensures.more)
     (took_front c.args.hex chosen c.records.player c.give_items.new.self c.give_record.new.self c.records.clock c.pass-clock.result c.records.given r _ _ c.in-Err-give_record.stop _ _ _ _ i.hex (c.in-Ok-give_items.ensures.hex ∙ i.hex) i.none now due
     (c.in-Ok-give_items.ensures.plays law) (c.in-Err-give_record.ensures.plays law) c.pass-clock.ensures.passed) c.in-Err-give_record.ensures.cause
 
@@ -125,7 +125,7 @@ returns-in-Ok-None-clause-covers g c =
     let same = c.as_slice-items.ensures.value ∙ ap (λ (x : Chosen). x.items) c.setup.view_is in
     let behind = behind_is c.records.given c.as_slice-items.result.now in
     let after = rw c.in-Ok-None.field-0-is at (c.in-Ok-None.ensures.after p.none) in
-    done_ends (replay_output c.args.hex chosen) _ c.finish.result _ _ _ _ _ _ _ _ _ _ p after.finds
+    done_ends (replay_output c.args.hex chosen) _ c.finish.result _ _ _ _ _ _ _ _ _ _ _ (replay_goes_on law c.args.hex chosen) p after.finds after.keeps c.finish.ensures.more
     (took_last c.args.hex chosen c.records.player c.records.clock c.records.given _ c.finish.result _ _ _ i.hex i.none (behind ∙ ap (λ (l : List Item). drop c.records.given l) same) (c.finish.ensures.plays law)) c.finish.ensures.cause
 
 pub returns-in-Err-next-clause-covers : goal.returns-in-Err-next-clause-covers

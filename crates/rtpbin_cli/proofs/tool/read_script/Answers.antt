@@ -1,5 +1,6 @@
-use Rattle.std.proofs.Common.{arith, ◌≡◌, ◌∙◌, sym, ap, length, take, List, ℕ, ◌<◌}
+use Rattle.std.proofs.Common.{inr, subst, arith, ◌≡◌, ◌∙◌, sym, ap, length, take, List, ℕ, ◌<◌}
 use Rattle.std.proofs.lemmas.List.{with_items_is}
+use Rattle.rtp_io.specs.Outside.{AreBytes}
 use Rattle.rtp_io.specs.Laws.{told_then}
 use Rattle.rtpbin_cli.specs.Script.{script_of}
 use Rattle.rtpbin_cli.proofs.Scripts.{script_front, reads_script, reads_cause}
@@ -22,3 +23,11 @@ returns-in-Ok-read_up_to-clause-after g c =
 
 pub returns-in-Ok-read_up_to-clause-cause : goal.returns-in-Ok-read_up_to-clause-cause
 returns-in-Ok-read_up_to-clause-cause g c = reads_cause c.setup_in.result _ _ _ (c.in-Ok-read_up_to.ensures.cause ∙ c.in-Ok.ensures.cause) c.setup_in.ensures
+
+pub returns-clause-after : goal.returns-clause-after
+returns-clause-after g c = λ told.
+    let before = g.F.Files.disk c.args.files.now in
+    let opened = g.F.Files.disk c.open_file.new.self in
+    let now = c.in-Ok.ensures.opened told in
+    let told' = told_then before opened c.open_file.ensures.same told in
+    inr (c.read_up_to.ensures.opened told' ∙ now.opened, subst AreBytes (now.all ∙ sym (ap (λ (f : List ℕ → List ℕ). f c.args.name.now) c.read_up_to.ensures.same.contents)) now.bytes)

@@ -8,12 +8,12 @@ use Rattle.rtpbin_cli.proofs.Running.{script_stops, open_fails, capture_runs}
 use Rattle.rtpbin_cli.proofs.tool.replay.Goals as goal
 
 pub returns-in-Err-clause-runs : goal.returns-in-Err-clause-runs
-returns-in-Err-clause-runs g c = λ told bytes.
+returns-in-Err-clause-runs g c = λ told.
     let law : BeginsNoCapture = record { big = c.begins_no_capture.ensures.big; little = c.begins_no_capture.ensures.little; nano = c.begins_no_capture.ensures.nano } in
-    script_stops law c.args.hex c.args.capture.now c.args.script.now c.in-Err.stop _ _ _ c.read_script.ensures.same bytes c.in-Err.ensures.after told
+    script_stops law c.args.hex c.args.capture.now c.args.script.now c.in-Err.stop _ _ _ c.read_script.ensures.same c.in-Err.ensures.after told
 
 pub returns-in-Ok-open_file-clause-runs : goal.returns-in-Ok-open_file-clause-runs
-returns-in-Ok-open_file-clause-runs g c = λ told bytes.
+returns-in-Ok-open_file-clause-runs g c = λ told.
     let before = g.F.Files.disk c.args.files.now in
     let mid = g.F.Files.disk c.read_script.new.files in
     let start = g.F.Files.disk c.open_file.new.self in
@@ -23,7 +23,7 @@ returns-in-Ok-open_file-clause-runs g c = λ told bytes.
     (ap (replay_by c.args.hex) (c.in-Ok.ensures.after told)) (c.in-Ok-open_file.ensures.opened (told_then before mid c.read_script.ensures.same told)) c.replay_open.ensures.opened c.replay_open.ensures.covers
 
 pub returns-clause-runs : goal.returns-clause-runs
-returns-clause-runs g c = λ told bytes.
+returns-clause-runs g c = λ told.
     let before = g.F.Files.disk c.args.files.now in
     let mid = g.F.Files.disk c.read_script.new.files in
     open_fails (Replay c.args.hex c.args.capture.now c.args.script.now) (g.F.Files.disk c.open_file.new.self) _ (c.in-Err-open_file.ensures.closed (told_then before mid c.read_script.ensures.same told))

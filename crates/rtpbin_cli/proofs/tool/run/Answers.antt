@@ -20,7 +20,7 @@ returns-in-Some-Replay-clause-runs g c =
     let w = g.O.Sink.written c.args.out.now in
     let w' = g.O.Sink.written c.replay.new.out in
     let e = rw c.in-Some-Replay.field-0-is at c.in-Some-Replay.ensures in
-    subst (λ (f : Option Form). Knows f before → Runs c.replay.result (wanted before.contents f) f after w w') e (λ knows. c.replay.ensures.runs knows.0 knows.1)
+    subst (λ (f : Option Form). Knows f before → Runs c.replay.result (wanted before.contents f) f after w w') e (λ knows. c.replay.ensures.runs knows)
 
 pub returns-in-Ok-clause-usage : goal.returns-in-Ok-clause-usage
 returns-in-Ok-clause-usage g c =
@@ -36,7 +36,7 @@ returns-in-Ok-clause-runs g c =
     let w' = g.O.Sink.written c.dump_open.new.out in
     let e = rw c.in-Some-Dump.field-0-is at c.in-Some-Dump.ensures in
     subst (λ (f : Option Form). Knows f before → Runs c.dump_open.result (wanted before.contents f) f after w w') e
-    (λ knows. let told = knows.0 in capture_runs (Dump c.in-Some-Dump.capture.now) dump_output c.dump_open.result before start after w w' told c.open_file.ensures.same c.dump_open.ensures.same refl (c.in-Ok.ensures.opened told) c.dump_open.ensures.opened c.dump_open.ensures.covers)
+    (λ knows. let told = knows in capture_runs (Dump c.in-Some-Dump.capture.now) dump_output c.dump_open.result before start after w w' told c.open_file.ensures.same c.dump_open.ensures.same refl (c.in-Ok.ensures.opened told) c.dump_open.ensures.opened c.dump_open.ensures.covers)
 
 pub returns-in-Err-clause-usage : goal.returns-in-Err-clause-usage
 returns-in-Err-clause-usage g c =
@@ -50,4 +50,4 @@ returns-in-Err-clause-runs g c =
     let w = g.O.Sink.written c.args.out.now in
     let e = rw c.in-Some-Dump.field-0-is at c.in-Some-Dump.ensures in
     subst (λ (f : Option Form). Knows f before → Runs (Err stop.Read) (wanted before.contents f) f after w w) e
-    (λ knows. open_fails (Dump c.in-Some-Dump.capture.now) after w (c.in-Err.ensures.closed knows.0))
+    (λ knows. open_fails (Dump c.in-Some-Dump.capture.now) after w (c.in-Err.ensures.closed knows))

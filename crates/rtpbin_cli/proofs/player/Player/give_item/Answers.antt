@@ -1,5 +1,6 @@
 use Rattle.log_model.specs.Inputs.{OfScript}
 use Rattle.rtpbin_cli.specs.declared.stop.Stop.TheVariants as stop
+use Rattle.rtpbin_cli.proofs.Progress.{more_none, prints_more}
 use Rattle.rtpbin_cli.proofs.Playing.{plays_one, plays_none}
 use Rattle.rtpbin_cli.proofs.player.Player.give_item.Goals as goal
 
@@ -9,3 +10,9 @@ returns-in-Ok-clause-plays g c = λ law.
 
 pub returns-in-Err-clause-plays : goal.returns-in-Err-clause-plays
 returns-in-Err-clause-plays g c = λ law. plays_none law stop.Memory c.args.self.now c.args.self.now _ _
+
+pub returns-in-Ok-clause-more : goal.returns-in-Ok-clause-more
+returns-in-Ok-clause-more g c = prints_more _ c.write_lines.result _ _ _ _ c.write_lines.ensures.prints
+
+pub returns-in-Err-clause-more : goal.returns-in-Err-clause-more
+returns-in-Err-clause-more g c = more_none (g.O.Sink.written c.args.out.now)

@@ -1,10 +1,12 @@
-use Rattle.std.proofs.Common.{◌∙◌, ◌+◌, ◌∷◌, ◌++◌, [], subst, take, drop, get_or, List}
+use Rattle.std.proofs.Common.{refl, sym, ◌∙◌, ◌+◌, ◌∷◌, ◌++◌, [], subst, take, drop, get_or, List}
 use Rattle.std.specs.Prelude.{map}
+use Rattle.std.proofs.lemmas.List.{append-nil}
 use Rattle.log_model.specs.declared.Control.TheVariants.{Clock}
 use Rattle.log_model.specs.declared.Item.{Item}
 use Rattle.log_model.specs.Inputs.{Input, OfScript}
 use Rattle.rtpbin_cli.specs.Plays.{Plays}
 use Rattle.rtpbin_cli.proofs.Items.{time_of_last, are_next, one_more, all_parts}
+use Rattle.rtpbin_cli.proofs.Progress.{more_none, more_then}
 use Rattle.rtpbin_cli.proofs.Playing.{plays_then, plays_fail}
 use Rattle.rtpbin_cli.proofs.player.Player.give_items.Goals as goal
 
@@ -31,5 +33,21 @@ loop-item-preserved g c =
       plays = λ law.
           let both = plays_then c.args.self.now c.loop-item.self c.give_item.new.self (map OfScript (take k items)) (OfScript (get_or items k none) ∷ []) _ _ _ (c.loop-item.invariant.plays law) (c.in-Ok.ensures.plays law) in
           λ s seen start plays. subst (λ (l : List Input). Plays s c.give_item.new.self (seen ++ l) start (g.O.Sink.written c.give_item.new.out)) (one_more items k none c.loop-item-test.true) (both s seen start plays);
+      more = more_then _ _ _ c.loop-item.invariant.more c.give_item.ensures.more;
       faults = c.in-Ok.ensures.cause ∙ c.loop-item.invariant.faults;
     }
+
+pub loop-item-init : goal.loop-item-init
+loop-item-init g c = record {
+  hex = refl;
+  records = refl;
+  time = refl;
+  rest = c.requires.items;
+  none = c.requires.none;
+  plays = λ law s seen start plays. subst (λ (l : List Input). Plays s c.args.self.now l start (g.O.Sink.written c.args.out.now)) (sym (append-nil seen)) plays;
+  more = more_none (g.O.Sink.written c.args.out.now);
+  faults = refl;
+}
+
+pub returns-in-Err-clause-more : goal.returns-in-Err-clause-more
+returns-in-Err-clause-more g c = more_then _ _ _ c.loop-item.invariant.more c.give_item.ensures.more

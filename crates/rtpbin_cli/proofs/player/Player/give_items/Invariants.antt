@@ -3,6 +3,7 @@ use Rattle.std.specs.Prelude.{map}
 use Rattle.log_model.specs.Inputs.{OfScript}
 use Rattle.log_model.specs.Captured.{AreItems}
 use Rattle.bin_core.specs.Words.{records_of, time_of}
+use Rattle.rtpbin_cli.specs.Taken.{AddsMore}
 use Rattle.rtpbin_cli.specs.Plays.{LogGoesOn, PlaysMore, time_behind}
 use Rattle.rtpbin_cli.proofs.player.Player.give_items.Given as goal
 
@@ -15,5 +16,6 @@ invariant-loop-item g l =
       rest : AreItems (time_of l.self.bin) (drop l.item-index l.items);
       none : l.self.lines ≡ [];
       plays : LogGoesOn → PlaysMore (Ok tt) l.fn.self l.self (map OfScript (take l.item-index l.items)) (g.O.Sink.written l.fn.out) (g.O.Sink.written l.out);
+      more : AddsMore [] (g.O.Sink.written l.fn.out) (g.O.Sink.written l.out);
       faults : g.O.Sink.faults l.out ≡ g.O.Sink.faults l.fn.out;
     }
