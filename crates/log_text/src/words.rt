@@ -1,6 +1,6 @@
-//! The words of a line, without packet bytes and newline.
+//! The words of a line, without its bytes and newline.
 ghost use Rattle.std.specs.Prelude.{Some};
-ghost use Rattle.log_text.specs.Text.{line_words, word_text, kind_text, shape_text, fates_text};
+ghost use Rattle.log_text.specs.Text.{line_words, word_text, kind_text, source_text, shape_text, fates_text};
 
 use jitter_model::Origin;
 use std::fmt;
@@ -30,6 +30,41 @@ impl fmt::Display for Words<'_> {
             } => {
                 let word = Spelled(*word);
                 write!(f, "{time} bad {session} {word}")
+            }
+            BinLine::RtcpBad {
+                time,
+                session,
+                word,
+                offset,
+            } => {
+                let word = Spelled(*word);
+                write!(f, "{time} rtcp-bad {session} {word} {offset}")
+            }
+            BinLine::Hold {
+                time,
+                session,
+                ssrc,
+                seq,
+            } => {
+                let source = Source {
+                    session: *session,
+                    ssrc: *ssrc,
+                };
+                write!(f, "{time} hold {source} {seq}")
+            }
+            BinLine::Drop {
+                time,
+                session,
+                ssrc,
+                seq,
+                cause,
+            } => {
+                let source = Source {
+                    session: *session,
+                    ssrc: *ssrc,
+                };
+                let cause = Spelled(*cause);
+                write!(f, "{time} drop {source} {seq} {cause}")
             }
             BinLine::Pt {
                 time,
@@ -93,9 +128,80 @@ impl fmt::Display for Words<'_> {
                 number,
                 k,
             } => { write!(f, "{time} request {lane} {number} {k}") }
+            BinLine::Nack {
+                time,
+                session,
+                bytes: _,
+            } => write!(f, "{time} nack {session}"),
             BinLine::Flush { time, lane, count } => write!(f, "{time} flush {lane} {count}"),
             BinLine::Flushed { time, lane } => write!(f, "{time} flushed {lane}"),
             BinLine::Latency { time, lane, ns } => write!(f, "{time} latency {lane} {ns}"),
+            BinLine::Cname {
+                time,
+                session,
+                ssrc,
+                name: _,
+            } => {
+                let source = Source {
+                    session: *session,
+                    ssrc: *ssrc,
+                };
+                write!(f, "{time} cname {source}")
+            }
+            BinLine::Sr {
+                time,
+                session,
+                ssrc,
+                ntp,
+                rtp,
+            } => {
+                let source = Source {
+                    session: *session,
+                    ssrc: *ssrc,
+                };
+                write!(f, "{time} sr {source} {ntp} {rtp}")
+            }
+            BinLine::RtcpStray {
+                time,
+                session,
+                ssrc,
+            } => {
+                let source = Source {
+                    session: *session,
+                    ssrc: *ssrc,
+                };
+                let stray = Spelled(Word::Stray);
+                write!(f, "{time} rtcp-{stray} {source}")
+            }
+            BinLine::Bye {
+                time,
+                session,
+                ssrc,
+            } => {
+                let source = Source {
+                    session: *session,
+                    ssrc: *ssrc,
+                };
+                write!(f, "{time} bye {source}")
+            }
+            BinLine::Sync { time, lane, local } => write!(f, "{time} sync {lane} {local}"),
+            BinLine::Offset { time, lane, ns } => write!(f, "{time} offset {lane} {ns}"),
+            BinLine::Gone {
+                time,
+                session,
+                ssrc,
+            } => {
+                let source = Source {
+                    session: *session,
+                    ssrc: *ssrc,
+                };
+                write!(f, "{time} gone {source}")
+            }
+            BinLine::Report {
+                time,
+                session,
+                bytes: _,
+            } => write!(f, "{time} report {session}"),
             BinLine::End { time, lane } => write!(f, "{time} end {lane}"),
             BinLine::Done {
                 records,
@@ -146,6 +252,16 @@ impl fmt::Display for Spelled {
             Word::Stray => write!(f, "stray"),
             Word::Flushing => write!(f, "flushing"),
             Word::Ended => write!(f, "ended"),
+            Word::Own => write!(f, "own"),
+            Word::Sources => write!(f, "sources"),
+            Word::Collision => write!(f, "collision"),
+            Word::Probation => write!(f, "probation"),
+            Word::Unmapped => write!(f, "unmapped"),
+            Word::Lanes => write!(f, "lanes"),
+            Word::Rate => write!(f, "rate"),
+            Word::RtxShort => write!(f, "rtx-short"),
+            Word::RtxSsrc => write!(f, "rtx-ssrc"),
+            Word::RtxAmbiguous => write!(f, "rtx-ambiguous"),
         }
     }
 }
@@ -161,6 +277,23 @@ impl fmt::Display for Kind {
             Origin::Original => write!(f, "o"),
             Origin::Retransmission => write!(f, "r"),
         }
+    }
+}
+
+// The session and the SSRC of a source.
+#[derive(Drop)]
+struct Source {
+    session: u8,
+    ssrc: u32,
+}
+
+impl fmt::Display for Source {
+    ghost output = { λ source. Some (source_text source.session source.ssrc) };
+
+    fn fmt<W: fmt::Write>(&self, f: &mut fmt::Formatter<W>) -> fmt::Result {
+        let session = self.session;
+        let ssrc = self.ssrc;
+        write!(f, "{session} {ssrc:08x}")
     }
 }
 

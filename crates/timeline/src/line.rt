@@ -54,6 +54,26 @@ pub enum Word {
     Flushing,
     /// The pusher has ended.
     Ended,
+    /// The SSRC is the program's own.
+    Own,
+    /// The source is new, and its session keeps as many as it can.
+    Sources,
+    /// The source was first heard from another address.
+    Collision,
+    /// The packet was kept in probation, and a later one broke the run.
+    Probation,
+    /// The payload type has no clock rate.
+    Unmapped,
+    /// The stream is new, and there are as many lanes as there can be.
+    Lanes,
+    /// The lane has another clock rate.
+    Rate,
+    /// The retransmission has no room for the original number.
+    RtxShort,
+    /// The stream of the retransmission is not known, or has no lane.
+    RtxSsrc,
+    /// Two streams asked for the number.
+    RtxAmbiguous,
 }
 
 /// One line of a log. Times and presentation times are nanoseconds of the virtual clock.
@@ -70,6 +90,28 @@ pub enum BinLine {
         time: u64,
         session: u8,
         word: Word,
+    },
+    /// A payload on an RTCP port that is no compound: why, and the offset of the bad packet.
+    RtcpBad {
+        time: u64,
+        session: u8,
+        word: Word,
+        offset: usize,
+    },
+    /// A packet is kept until its source is valid.
+    Hold {
+        time: u64,
+        session: u8,
+        ssrc: u32,
+        seq: u16,
+    },
+    /// A packet of a session goes to no lane; `ssrc` and `seq` are those that it came with.
+    Drop {
+        time: u64,
+        session: u8,
+        ssrc: u32,
+        seq: u16,
+        cause: Word,
     },
     /// A payload type is first routed, with its clock rate.
     Pt {
@@ -139,6 +181,12 @@ pub enum BinLine {
         number: u64,
         k: u8,
     },
+    /// The requests of one series of turns, as the bytes of a generic NACK.
+    Nack {
+        time: u64,
+        session: u8,
+        bytes: Blob,
+    },
     /// A flush of a lane begins, and `count` packets are dropped.
     Flush {
         time: u64,
@@ -155,6 +203,57 @@ pub enum BinLine {
         time: u64,
         lane: u8,
         ns: u64,
+    },
+    /// A source has a new CNAME.
+    Cname {
+        time: u64,
+        session: u8,
+        ssrc: u32,
+        name: Blob,
+    },
+    /// A sender report of a kept source: its NTP time in nanoseconds and its RTP timestamp.
+    Sr {
+        time: u64,
+        session: u8,
+        ssrc: u32,
+        ntp: u64,
+        rtp: u32,
+    },
+    /// A sender report of a source that is not kept.
+    RtcpStray {
+        time: u64,
+        session: u8,
+        ssrc: u32,
+    },
+    /// A kept source said BYE.
+    Bye {
+        time: u64,
+        session: u8,
+        ssrc: u32,
+    },
+    /// The presentation time of a sender report in its lane.
+    Sync {
+        time: u64,
+        lane: u8,
+        local: u64,
+    },
+    /// How far a lane lies behind the first of those with its CNAME, in nanoseconds.
+    Offset {
+        time: u64,
+        lane: u8,
+        ns: u64,
+    },
+    /// A source is removed.
+    Gone {
+        time: u64,
+        session: u8,
+        ssrc: u32,
+    },
+    /// A session's report, as the bytes of a compound.
+    Report {
+        time: u64,
+        session: u8,
+        bytes: Blob,
     },
     /// A lane has given all that it had.
     End {
