@@ -1,0 +1,16 @@
+pub mod Events
+pub mod Given
+pub mod Probation
+pub mod Reports
+pub mod Notes
+pub mod Records
+pub mod Sessions
+pub mod Moves
+pub mod Types
+pub mod Lanes
+pub mod Restoring
+pub mod Fates
+pub mod Steps
+pub mod Plan
+pub mod Laws
+pub mod Standing
