@@ -1,0 +1,12 @@
+pub mod Inputs
+pub mod Events
+pub mod Lines
+pub mod Lanes
+pub mod Turning
+pub mod Acting
+pub mod Taking
+pub mod Serving
+pub mod Ending
+pub mod Log
+pub mod Order
+pub mod Fitting
