@@ -1,0 +1,7 @@
+pub mod Tests
+pub mod Splitting
+pub mod Standing
+pub mod Shaping
+pub mod Taking
+pub mod Lawful
+pub mod Worked
