@@ -66,8 +66,8 @@ fn writes(rt: HostRuntime) -> Result<(), Fail> {
 
     let mut files = SureFiles::new(alloc)?;
     files.add(alloc, "one", b"abc")?;
-    files.set_step(2);
     files.open_file("one")?;
+    files.set_step(2);
     let mut buf = [0u8; 8];
     assert_eq!(rt; files.read(&mut buf)?, 2);
     assert_eq!(rt; files.left(), b"c".as_slice());
