@@ -12,7 +12,7 @@ use Rattle.depay.specs.Payload.{is_over, begins, has_start, has_end, nal_type, f
 use Rattle.depay.specs.Fragments.{Packet, Call, Takes, Gaps, goes_on, are_fragments, oldest, joined, are_open, since_start, open_packets, open_in}
 use Rattle.depay.specs.Outcomes.{is_continued, first_number, going_on, whole_unit, left_open, single_unit, alone_by, alone, outcomes_by, outcomes_of}
 use Rattle.depay.specs.Laws.{AreConsecutive, IsFragmentOf, AreFragmentsOf, StartsOnce, EndNowhere, IsAlone, IsJoined, IsWhole, UnitsAreWhole}
-use Rattle.depay.proofs.Tests.{both, not_holds, equal, not_less}
+use Rattle.depay.proofs.Deciding.{both, not_holds, equal, not_less}
 use Rattle.depay.proofs.Standing.{opened, open_parts, going_parts, later_parts, start_parts}
 
 -- ---- elements of short lists

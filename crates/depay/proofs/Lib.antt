@@ -1,4 +1,4 @@
-pub mod Tests
+pub mod Deciding
 pub mod Splitting
 pub mod Standing
 pub mod Shaping

@@ -11,7 +11,7 @@ use Rattle.depay.specs.declared.outcome.Outcome.TheVariants.{Broken}
 use Rattle.depay.specs.Fragments.{Packet}
 use Rattle.depay.specs.Outcomes.{single_unit, alone_by, alone}
 use Rattle.depay.specs.Shapes.{Holds, Fails, IsShape}
-use Rattle.depay.proofs.Tests.{both, both_hold, left_fails, right_fails, not_holds, not_fails, refuted, equal, eq_holds, eq_fails, lt_holds, lt_fails, le_holds}
+use Rattle.depay.proofs.Deciding.{both, both_hold, left_fails, right_fails, not_holds, not_fails, refuted, equal, eq_holds, eq_fails, lt_holds, lt_fails, le_holds}
 use Rattle.depay.proofs.Standing.{start_parts}
 
 -- the tests by their parts

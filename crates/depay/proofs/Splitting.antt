@@ -3,7 +3,7 @@ use Rattle.std.proofs.Common.{◌≡◌, ◌∙◌, ◌<◌, ◌≤◌, ℕ, zer
 use Rattle.std.specs.Prelude.{◌==◌, ◌&&◌, option_map, unwrap_or, is_some, nat_le, nat_lt}
 use Rattle.std.proofs.lemmas.List.{length-drop, append-nil}
 use Rattle.depay.specs.Aggregate.{size_at, begins_unit, first_unit, after_unit, in_front, units_within, units_in, IsSplit}
-use Rattle.depay.proofs.Tests.{eq_holds, eq_fails, both, both_hold, left_fails, right_fails, lt_holds, lt_fails, le_holds, le_fails, at_most}
+use Rattle.depay.proofs.Deciding.{eq_holds, eq_fails, both, both_hold, left_fails, right_fails, lt_holds, lt_fails, le_holds, le_fails, at_most}
 
 abbrev one_step : List ℕ → Option (List (List ℕ)) → Option (List (List ℕ))
 one_step b rest = cond (length b == 0) (Some []) (cond (begins_unit b) (option_map (in_front (first_unit b)) rest) None)

@@ -12,7 +12,7 @@ use Rattle.depay.specs.Payload.{is_over, begins, has_start, has_end, is_fu_a, is
 use Rattle.depay.specs.Fragments.{Packet, Call, Takes, Gaps, goes_on, are_fragments, oldest, fragment_bytes, joined, are_open, since_start, open_packets, open_in}
 use Rattle.depay.specs.Outcomes.{is_continued, first_number, going_on, whole_unit, left_open, alone, outcomes_by, outcomes_of, gap_of}
 use Rattle.depay.specs.Joining.{Joining, joining, closed, summary_of, summary, bytes_so_far, StandsFor, unit_goes_on, goes_on_with, unit_next, bytes_next, on_outcomes, on_next, first_of, anew_outcomes, starts, opened_by, anew_next}
-use Rattle.depay.proofs.Tests.{both, both_hold, left_fails, right_fails, and_holds, not_holds, not_fails, refuted, equal, at_most, lt_fails, not_less}
+use Rattle.depay.proofs.Deciding.{both, both_hold, left_fails, right_fails, and_holds, not_holds, not_fails, refuted, equal, at_most, lt_fails, not_less}
 
 -- ---- what is open, as a look back says
 

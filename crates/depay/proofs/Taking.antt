@@ -11,7 +11,7 @@ use Rattle.depay.specs.Payload.{is_over, has_end}
 use Rattle.depay.specs.Fragments.{Packet, Call}
 use Rattle.depay.specs.Outcomes.{calls_after}
 use Rattle.depay.specs.Joining.{Joining, joining, closed, StandsFor, unit_next, bytes_next, on_outcomes, on_next}
-use Rattle.depay.proofs.Tests.{lt_holds, lt_fails}
+use Rattle.depay.proofs.Deciding.{lt_holds, lt_fails}
 
 -- a call that succeeds leads on, and one that fails leaves all
 pub took : {X : Type 0} (r : Result X OutOfMemory) (old new next : Joining) (format : Format) (call : Call) (calls : List Call) → OnOk r (new ≡ next) → OnErr r (new ≡ old)

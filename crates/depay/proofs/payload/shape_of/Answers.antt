@@ -1,6 +1,6 @@
 use Rattle.std.proofs.Common.{◌≡◌, ◌∙◌, ◌≤◌, sym, ap, false, true, length, arith}
 use Rattle.depay.specs.Payload.{nal_type, is_unit_type}
-use Rattle.depay.proofs.Tests.{not_zero}
+use Rattle.depay.proofs.Deciding.{not_zero}
 use Rattle.depay.proofs.Shaping.{empty_is, kind_is, single_large, single_is}
 use Rattle.depay.proofs.payload.shape_of.Goals as goal
 
