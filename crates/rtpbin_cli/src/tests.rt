@@ -265,12 +265,17 @@ fn failures(rt: HostRuntime) -> Result<(), Fail> {
     Ok(())
 }
 
-// What is left of a long capture where the first write fails, and how the run ends. Behind its first
-// record the capture has zeros.
-fn left_of_long(alloc: Global, words: &[String]) -> Result<(Status, usize), OutOfMemory> {
+// A record, and zeros behind it.
+fn long_capture(alloc: Global) -> Result<Vec<u8>, OutOfMemory> {
     let mut capture = capture_of(alloc, &[(1, 0, 0)])?;
     let rest: Vec<u8> = vec![in alloc; 0; 300_000]?;
     capture.extend_from_slice(&rest)?;
+    Ok(capture)
+}
+
+// What is left of a long capture where the first write fails, and how the run ends.
+fn left_of_long(alloc: Global, words: &[String]) -> Result<(Status, usize), OutOfMemory> {
+    let capture = long_capture(alloc)?;
     let mut files = MemoryFiles::new(alloc)?;
     files.add(alloc, "c", &capture)?;
     files.add(alloc, "s", SCRIPT)?;
