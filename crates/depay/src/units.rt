@@ -105,7 +105,8 @@ impl Depay {
         packet: &Packet<'_>,
     ) -> Result<Vec<Outcome>, OutOfMemory>
         requires { unit_goes_on unit.now (packet_of packet.now) ≡ true }
-        ensures answer { IfOk result (λ v. v.items ≡ on_outcomes self.old unit.now (packet_of packet.now)) }
+        ensures answer { IfOk result (λ v.
+            v.items ≡ on_outcomes self.old unit.now (packet_of packet.now)) }
         ensures after { OnOk result (self.new ≡ on_next self.old unit.now (packet_of packet.now)) }
         ensures err { OnErr result (self.new ≡ self.old) }
     {
@@ -227,7 +228,8 @@ fn push_alone(
     format: Format,
     packet: &Packet<'_>,
 ) -> Result<bool, OutOfMemory>
-    ensures added { OnOk result (outcomes.new.items ≡ outcomes.old.items ++ alone format (packet_of packet.now)) }
+    ensures added { OnOk result (outcomes.new.items
+        ≡ outcomes.old.items ++ alone format (packet_of packet.now)) }
     ensures start { IfOk result (λ start. start ≡ is_start format (packet_of packet.now)) }
     ensures head { IfOk result (λ start. start ≡ true → 2 ≤ length packet.now.payload.now) }
 {
