@@ -4,7 +4,7 @@ use Rattle.std.specs.Prelude.{if◌then◌else◌, nat_eq, nat_lt, length, slice
 use Rattle.std.proofs.lemmas.Bool.{lt-ltb, le-ltb, ne_eqb}
 use Rattle.rtp_demux.specs.declared.lanes.LaneOf.{LaneOf}
 use Rattle.rtp_demux.specs.declared.lanes.LaneOf.TheVariants.{New, Known, Rate, Full}
-use Rattle.rtp_demux.specs.Lanes.{Stream, Sight, is_stream, rate_of, lanes_of, IsFound, found_from, lane_of, lane_by, lane_for, IsOneLane, IsOneFinding}
+use Rattle.rtp_demux.specs.Lanes.{Stream, Sight, is_stream, rate_of, lanes_of, found_from, lane_by, lane_for, IsOneLane, IsOneFinding}
 use Rattle.rtp_demux.proofs.Sights.{same_stream, is_itself, numbered_once}
 
 rate_if : (b : Bool) (n v : ℕ) (o : Option ℕ) (f : Option (ℕ × ℕ)) → o ≡ option_map (λ e. e.1) f → (if b then Some v else o) ≡ option_map (λ e. e.1) (if b then Some (n, v) else f)

@@ -3,7 +3,9 @@ use Rattle.std.proofs.Common.{◌≡◌, ◌<◌, ◌≤◌, ◌&&◌, ℕ, zero
 use Rattle.std.proofs.lemmas.Bool.{eq-eqb, eqb-true}
 use Rattle.std.proofs.lemmas.Bool.Decides.{nat_tests}
 use Rattle.std.proofs.lemmas.List.{take-append-le, take_all, length-append, length-take}
-use Rattle.rtp_demux.specs.Lanes.{Stream, Sight, is_stream, rate_of, seen_next, first_sights, lanes_of, IsNumberedOnce, StaysNumbered}
+use Rattle.rtp_demux.specs.Lanes.{Stream, Sight, IsLane, is_stream, rate_of, seen_next, first_sights, lanes_of, IsNumberedOnce, StaysNumbered}
+use Rattle.rtp_demux.specs.declared.lanes.LaneOf.{LaneOf}
+use Rattle.rtp_demux.specs.declared.lanes.LaneOf.TheVariants.{New, Known, Rate, Full}
 
 -- ---- streams
 
@@ -81,6 +83,13 @@ stands_full lanes calls s le stands = stands ∙ sym (lanes_full calls s (omega 
 pub stands_new : (old new calls : List Sight) (s : Sight) → rate_of old s.0 ≡ None → length old < 64 → new ≡ old ++ s ∷ [] → old ≡ lanes_of calls → new ≡ lanes_of (s ∷ calls)
 stands_new old new calls s none lt e stands =
     e ∙ ap (λ (es : List Sight). es ++ s ∷ []) stands ∙ sym (lanes_new calls s (ap (λ (es : List Sight). rate_of es s.0) (sym stands) ∙ none) (omega (arith, ap length stands)))
+
+-- an answer that makes no lane changes none
+pub stands_old : (lanes calls : List Sight) (s : Sight) (answer : LaneOf) → IsLane lanes s answer → ((lane : ℕ) → answer ≡ New lane → ⊥) → lanes ≡ lanes_of calls → lanes ≡ lanes_of (s ∷ calls)
+stands_old lanes calls s (New lane) told old stands = absurd (old lane refl)
+stands_old lanes calls s (Known lane) told old stands = stands_known lanes calls s lane s.1 told stands
+stands_old lanes calls s (Rate lane kept) told old stands = stands_known lanes calls s lane kept told.0 stands
+stands_old lanes calls s Full told old stands = stands_full lanes calls s told.1 stands
 
 -- ---- no stream stands twice
 

@@ -1,7 +1,8 @@
 //! Lanes by stream.
-ghost use Rattle.std.specs.Prelude.{◌≡◌, ◌≤◌, ◌<◌, ◌+◌, ◌++◌, [], ◌∷◌, List, length, slice_get, Some, IfOk, MatchOption};
+ghost use Rattle.std.specs.Prelude.{◌≡◌, ◌≤◌, ◌<◌, ◌+◌, ◌++◌, [], ◌∷◌, List, length, nat_lt, if◌then◌else◌, slice_get, Some, IfOk, MatchOption};
 ghost use Rattle.indexmap.specs.IndexMap.{spare};
 ghost use Rattle.rtp_demux.specs.Lanes.{Sight, sight, rate_of, StandsFor, IsLane, IsFound};
+ghost use Rattle.rtp_demux.specs.declared.lanes.LaneOf.TheVariants.{New, Full};
 
 use indexmap::IndexMap;
 use rtp_units::OutOfMemory;
@@ -61,20 +62,22 @@ impl SsrcDemux {
         ensures answer { IsLane self.old (sight session ssrc rate) result }
         ensures stands { (calls : List Sight) → StandsFor self.old calls → StandsFor self.new (sight session ssrc rate ∷ calls) }
     {
-        let stream = (session, ssrc);
-        if let Some((lane, kept)) = seen(&self.lanes, stream) {
-            return if kept == rate {
-                LaneOf::Known(lane)
-            } else {
-                LaneOf::Rate { lane, kept }
-            };
+        let answer = self.peek(session, ssrc, rate);
+        if let LaneOf::New(_) = answer {
+            add(&mut self.lanes, (session, ssrc), rate);
         }
-        let count = self.lanes.len();
-        if count >= MAX_LANES {
-            return LaneOf::Full;
+        answer
+    }
+
+    /// What `lane` would answer. Nothing changes.
+    pub fn peek(&self, session: u8, ssrc: u32, rate: u32) -> LaneOf
+        ensures { IsLane self.now (sight session ssrc rate) result }
+    {
+        match seen(&self.lanes, (session, ssrc)) {
+            Some((lane, kept)) if kept == rate => LaneOf::Known(lane),
+            Some((lane, kept)) => LaneOf::Rate { lane, kept },
+            None => next_lane(self.lanes.len()),
         }
-        add(&mut self.lanes, stream, rate);
-        LaneOf::New(count as u8)
     }
 
     /// The lane of a stream, if it has one.
@@ -83,6 +86,18 @@ impl SsrcDemux {
     {
         let (lane, _rate) = seen(&self.lanes, (session, ssrc))?;
         Some(lane)
+    }
+}
+
+/// What a new stream is told where there are so many lanes.
+fn next_lane(count: usize) -> LaneOf
+    requires { count ≤ 64 }
+    ensures { result ≡ (if nat_lt count 64 then New count else Full) }
+{
+    if count >= MAX_LANES {
+        LaneOf::Full
+    } else {
+        LaneOf::New(count as u8)
     }
 }
 

@@ -7,6 +7,7 @@ use std::test::Fail;
 fn lanes_by_first_sight(rt: HostRuntime) -> Result<(), Fail> {
     let mut demux = SsrcDemux::new(rt.alloc())?;
     assert_eq!(rt; demux.find(0, 0x1122_3344), None);
+    assert_eq!(rt; demux.peek(0, 0x1122_3344, 90000), LaneOf::New(0));
     assert_eq!(rt; demux.lane(0, 0x1122_3344, 90000), LaneOf::New(0));
     assert_eq!(rt; demux.lane(1, 0x1122_3344, 48000), LaneOf::New(1));
     assert_eq!(rt; demux.lane(0, 0x1122_3344, 90000), LaneOf::Known(0));

@@ -1,19 +1,18 @@
-use Rattle.std.proofs.Common.{◌≤◌, ◌<◌, ◌∙◌, List, length, slice_get, sym, ap, arith}
-use Rattle.rtp_demux.specs.Lanes.{Sight, sight}
-use Rattle.rtp_demux.proofs.Sights.{stands_known, stands_full, stands_new}
+use Rattle.std.proofs.Common.{List, ◌++◌, [], ◌∷◌, ap, subst, ◌∙◌}
+use Rattle.rtp_demux.specs.Lanes.{Sight, sight, IsLane}
+use Rattle.rtp_demux.specs.declared.lanes.LaneOf.{LaneOf}
+use Rattle.rtp_demux.proofs.Sights.{stands_new, stands_old}
 use Rattle.rtp_demux.proofs.lanes.SsrcDemux.lane.Goals as goal
 
-pub returns-in-Some-clause-stands : goal.returns-in-Some-clause-stands
-returns-in-Some-clause-stands c = λ calls stands.
-    stands_known c.args.self.now calls (sight c.args.session c.args.ssrc c.args.rate) c.in-Some.lane c.in-Some.kept
-    (ap (λ (es : List Sight). slice_get es c.in-Some.lane) (sym c.self.view_is) ∙ c.in-Some.ensures) stands
+pub returns-in-New-clause-stands : goal.returns-in-New-clause-stands
+returns-in-New-clause-stands c = λ calls stands.
+    let call = sight c.args.session c.args.ssrc c.args.rate in
+    let told = subst (λ (a : LaneOf). IsLane c.args.self.now call a) c.in-New.is c.peek-answer.ensures in
+    stands_new c.args.self.now c.add.new.lanes.entries calls call told.0 told.1
+    (c.add.ensures.entries ∙ ap (λ (es : List Sight). es ++ call ∷ []) c.self.view_is) stands
 
-pub returns-then-count-ge-MAX_LANES-clause-stands : goal.returns-then-count-ge-MAX_LANES-clause-stands
-returns-then-count-ge-MAX_LANES-clause-stands c = λ calls stands.
-    let le : 64 ≤ length c.args.self.now = omega (arith, ap length c.self.view_is) in
-    stands_full c.args.self.now calls (sight c.args.session c.args.ssrc c.args.rate) le stands
-
-pub returns-clause-stands : goal.returns-clause-stands
-returns-clause-stands c = λ calls stands.
-    let lt : length c.self.inside.lanes.entries < 64 = omega arith in
-    stands_new c.self.inside.lanes.entries c.add.new.lanes.entries calls (sight c.args.session c.args.ssrc c.args.rate) c.in_default.ensures lt c.add.ensures.entries (c.self.view_is ∙ stands)
+pub returns-in_default : goal.returns-in_default
+returns-in_default c = record {
+  answer = c.peek-answer.ensures;
+  stands = λ calls. stands_old c.args.self.now calls (sight c.args.session c.args.ssrc c.args.rate) c.peek-answer.result c.peek-answer.ensures c.in_default.not-New;
+}
