@@ -377,7 +377,7 @@ fronted_rested c m t e tl sound ok counted le h =
     let before : IsReady c (opened_by c (front tl)) (given_by_all c (front tl)) (Fronted t e ∷ tl) =
     alike_ready c (opened_by c (front tl)) (given_by_all c (front tl)) tl (Fronted t e ∷ tl) (record { openings_are = refl; items_are = refl; lanes_are = λ l. refl }) h.ready in
     let after : IsReady c (with_steps (opened_by c (front tl)) xs) (given_by_all c (front tl) + given xs) (fronted c t e tl) =
-    all_stepped_ready c (opened_by c (front tl)) (given_by_all c (front tl)) t xs (Fronted t e ∷ tl) (sound.fit (front tl) e (ok, h.coming)) (few (given_by_all c (front tl) + given xs) (given_by_all c (e ∷ front tl)) (records (e ∷ front tl)) (sym sum) all (omega (arith, counted, le))) before in
+    all_stepped_ready c (opened_by c (front tl)) (given_by_all c (front tl)) t xs (Fronted t e ∷ tl) (sound.fit (front tl) e (ok, h.coming) (omega (arith, counted, le))) (few (given_by_all c (front tl) + given xs) (given_by_all c (e ∷ front tl)) (records (e ∷ front tl)) (sym sum) all (omega (arith, counted, le))) before in
     let is : front (fronted c t e tl) ≡ e ∷ front tl = all_stepped_front c t xs (Fronted t e ∷ tl) in
     record {
       ready = subst (λ (fs : List FrontEvent). IsReady c (opened_by c fs) (given_by_all c fs) (fronted c t e tl)) (sym is)

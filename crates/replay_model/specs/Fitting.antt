@@ -92,11 +92,12 @@ abbrev pub AreFit : List Opening → List Step → Type 0
 AreFit os [] = Unit {0}
 AreFit os (x ∷ xs) = IsFit os x × AreFit (with_step os x) xs
 
--- Whatever comes to the front of a script leads to steps that fit, and each record gives at most 16
--- packets to lanes.
+-- Whatever comes to the front of a script, with no more records than a capture has at most, leads to
+-- steps that fit, and each record gives at most 16 packets to lanes.
 pub record IsSound (c : Contents) : Type 0 where
   pub valid : IsValid (opening_settings c 0 1)
   pub fit : (older : List FrontEvent) (e : FrontEvent) → AreComing (e ∷ older)
+      → records (e ∷ older) ≤ 100000000
       → AreFit (with_steps [] (all_steps c older)) (steps c older e)
   pub few : (events : List FrontEvent) → AreComing events
       → given (all_steps c events) ≤ 16 * records events
