@@ -1,0 +1,11 @@
+pub mod FaultLemmas
+pub mod Parts
+pub mod OptionLemmas
+pub mod Heads
+pub mod Meanings
+pub mod OptionParts
+pub mod Contents
+pub mod Wholes
+pub mod Steps
+pub mod Searching
+pub mod Standing

@@ -1,0 +1,6 @@
+pub mod Faults
+pub mod Pieces
+pub mod Options
+pub mod Times
+pub mod Blocks
+pub mod Reading
