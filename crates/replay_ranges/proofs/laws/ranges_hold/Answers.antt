@@ -1,0 +1,5 @@
+use Rattle.replay_ranges.proofs.Stepping.{stay_in_range}
+use Rattle.replay_ranges.proofs.laws.ranges_hold.Goals as goal
+
+pub returns : goal.returns
+returns c = stay_in_range
