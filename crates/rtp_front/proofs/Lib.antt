@@ -1,0 +1,11 @@
+pub mod Noting
+pub mod Bits
+pub mod Telling
+pub mod Keeping
+pub mod Making
+pub mod Reporting
+pub mod Taking
+pub mod Holding
+pub mod Moving
+pub mod Stepping
+pub mod Typing

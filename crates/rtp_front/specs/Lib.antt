@@ -1,0 +1,4 @@
+pub mod Chosen
+pub mod Sessions
+pub mod Standing
+pub mod Notes
