@@ -1,0 +1,11 @@
+pub mod Outcomes
+pub mod Totals
+pub mod Tallying
+pub mod Settling
+pub mod Asking
+pub mod Entering
+pub mod Placing
+pub mod Serving
+pub mod Opening
+pub mod Sending
+pub mod Summing
