@@ -1,0 +1,10 @@
+pub mod Lookups
+pub mod Pushers
+pub mod Keeping
+pub mod Calls
+pub mod Right
+pub mod States
+pub mod Machine
+pub mod Wholes
+pub mod Growing
+pub mod Passing

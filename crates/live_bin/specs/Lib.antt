@@ -1,0 +1,9 @@
+pub mod Plans
+pub mod Lookup
+pub mod Journals
+pub mod Steps
+pub mod Kept
+pub mod Words
+pub mod Whole
+pub mod Grows
+pub mod Checked
