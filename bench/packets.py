@@ -18,8 +18,8 @@ LENGTHS = (10_000, 100_000, 1_000_000)
 RUNS = 3
 
 
-def frame(number, timestamp):
-    rtp = struct.pack('>BBHII', 0x80, 96, number % 65536, timestamp % 2**32, 0x11223344) + bytes(160)
+def frame(number, timestamp, ssrc=0x11223344):
+    rtp = struct.pack('>BBHII', 0x80, 96, number % 65536, timestamp % 2**32, ssrc) + bytes(160)
     udp = struct.pack('>HHHH', 40000, 5004, 8 + len(rtp), 0) + rtp
     ip = struct.pack('>BBHHHBBH4s4s', 0x45, 0, 20 + len(udp), 0, 0, 64, 17, 0, bytes([10, 0, 0, 1]),
                      bytes([10, 0, 0, 2])) + udp
@@ -32,13 +32,14 @@ def arrivals(count):
     return sorted((i * 1000 + late.get(i, 0), i) for i in range(count) if i % 50 != 7)
 
 
-def write_capture(path, arriving):
-    """Each packet of `arriving` by its arrival in microseconds and its index."""
+def write_capture(path, arriving, sources=1):
+    """Each packet of `arriving` by its arrival in microseconds and its index, from so many sources."""
     with open(path, 'wb') as file:
         file.write(struct.pack('<IHHiIII', 0xa1b2c3d4, 2, 4, 0, 0, 262144, 1))
         for at, i in arriving:
-            bytes_ = frame(i + 1, 90 * i)
-            file.write(struct.pack('<IIII', at // 10**6, at % 10**6, len(bytes_), len(bytes_)) + bytes_)
+            for source in range(sources):
+                bytes_ = frame(i + 1, 90 * i, 0x11223344 + source)
+                file.write(struct.pack('<IIII', at // 10**6, at % 10**6, len(bytes_), len(bytes_)) + bytes_)
 
 
 def seconds(program, capture, script):

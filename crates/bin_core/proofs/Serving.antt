@@ -1,93 +1,266 @@
--- A loop that serves the wakes of all lanes comes to the served timeline.
-use Rattle.std.proofs.Common.{ℕ, zero, suc, ◌≡◌, ◌≢◌, ◌<◌, true, false, refl, sym, ap, subst, ◌∙◌, List, Option, None, Some, length, arith, max}
-use Rattle.std.specs.Prelude.{get_or, set}
-use Rattle.std.proofs.lemmas.List.{length-set}
-use Rattle.jitter_model.specs.declared.Settings.{Settings}
+-- An agenda along the timeline.
+use Rattle.std.proofs.Common.{ℕ, zero, suc, ◌≡◌, ◌≢◌, ◌+◌, ◌<◌, ◌≤◌, ◌^◌, Bool, true, false, refl, sym, ap, subst, ◌∙◌, List, [], ◌∷◌, ◌++◌, length, Option, None, Some, max, arith}
+use Rattle.std.specs.Prelude.{◌==◌, slice_get, if◌then◌else◌}
+use Rattle.std.proofs.Math.Nat.{max_comm}
+use Rattle.std.proofs.lemmas.Grind.{common_steps}
 use Rattle.jitter_model.specs.Laws.{IsLater}
+use Rattle.script_lang.specs.Contents.{Contents}
+use Rattle.script_lang.specs.declared.script.Item.{Item}
 use Rattle.timeline.specs.declared.line.BinLine.{BinLine}
-use Rattle.log_model.specs.declared.Wake.{Wake}
-use Rattle.log_model.specs.Events.{Timeline, latest}
-use Rattle.log_model.specs.Waking.{ticked, wake, with_wake, first_wake, due, rooms, served}
-use Rattle.bin_core.specs.declared.lane.Lane.{Lane}
-use Rattle.bin_core.specs.Lanes.{Base, LaneTells, LaneRests}
-use Rattle.bin_core.specs.AllLanes.{wakes_in, wakes_left, LanesOnWay, LanesRest, LanesServed, StayOnWay, AreServed}
-use Rattle.bin_core.proofs.Placing.{around, wakes_same, wakes_other, one_tells, all_rest}
+use Rattle.front_model.specs.declared.Opening.{Opening}
+use Rattle.front_model.specs.declared.Step.{Step}
+use Rattle.front_model.specs.Events.{FrontEvent, Came, ReportsDue}
+use Rattle.front_model.specs.Steps.{steps}
+use Rattle.replay_model.specs.declared.Wake.{Wake}
+use Rattle.replay_model.specs.declared.Due.{Due}
+use Rattle.replay_model.specs.declared.Due.TheVariants as due
+use Rattle.replay_model.specs.Events.{Event, Timeline, Acted, Fronted, At, event_time, front, items, latest, openings}
+use Rattle.jitter_model.specs.declared.Entry.TheVariants.{Clock}
+use Rattle.replay_model.specs.declared.TheConstants.{END_OF_TIME}
+use Rattle.replay_model.specs.Acting.{is_for, all_acted, ticked_where}
+use Rattle.replay_model.specs.Lanes.{lane_count, opening_or, opened}
+use Rattle.replay_model.specs.Turning.{ticked}
+use Rattle.replay_model.specs.Taking.{fronted, taken, all_stepped, is_touched}
+use Rattle.replay_model.specs.Serving.{next_report, last_report, first_due, serve_one, serve}
+use Rattle.replay_model.specs.Ending.{closed, all_ended}
+use Rattle.replay_model.specs.Log.{served, with_item, with_done}
+use Rattle.replay_model.proofs.Lanes.{by_cases}
+use Rattle.replay_model.proofs.Turning.{ticked_latest, settled_items}
+use Rattle.replay_model.proofs.Serving.{ticked_reports}
+use Rattle.replay_model.proofs.Reporting.{reported_front}
+use Rattle.replay_model.proofs.Keeping.{one_openings, serve_openings, where_yes, where_not, where_last, all_stepped_front, acted_front}
+use Rattle.replay_model.proofs.Extending.{Adds, AreAt, then_more, all_stepped_extend, ticked_where_extend, acted_extend}
+use Rattle.lane_core.specs.Lanes.{Base, Adds as AddsLines}
+use Rattle.lane_core.specs.AllLanes.{all_resting, resting_and}
+use Rattle.bin_core.specs.declared.stage.Stage.{Stage}
+use Rattle.bin_core.specs.declared.agenda.Agenda.{Agenda}
+use Rattle.bin_core.specs.Stages.{StageTells, Ticks, GoesOn, Finishes, none_resting}
+use Rattle.bin_core.proofs.Controlling.{acted_items}
+use Rattle.bin_core.specs.Agendas.{Holds, GoesTo, ServesFirst, ServesNothing, due_first, next_by, all_served}
+use Rattle.bin_core.proofs.Staging.{tells_fewer}
+use Rattle.bin_core.proofs.Ticking.{and_other}
 
-first_same : (f g : ℕ → Option ℕ) (n : ℕ) → ((k : ℕ) → k < n → f k ≡ g k) → first_wake f n ≡ first_wake g n
-first_same f g zero h = refl
-first_same f g (suc n) h =
-    ap (λ (o : Option Wake). with_wake o n (f n)) (first_same f g n (λ k lt. h k (omega arith))) ∙ ap (with_wake (first_wake g n) n) (h n (omega arith))
+-- ---- the latest time
 
--- the kept wakes are those of the timeline
-same_due : (s : ℕ → Settings) (base : Base) (count limit : ℕ) (ls : List Lane) (told : List BinLine) (tl : Timeline) (o : Option Wake) → length ls ≡ count → LanesRest s base (length ls) ls told tl → due limit (first_wake (wakes_in ls) (length ls)) ≡ o → due limit (first_wake (wake s tl) count) ≡ o
-same_due s base count limit ls told tl o long h e =
-    subst (λ (n : ℕ). due limit (first_wake (wake s tl) n) ≡ o) long
-    (ap (due limit) (first_same (wake s tl) (wakes_in ls) (length ls) (λ k lt. sym (h.wakes_are k lt))) ∙ e)
+level : (t : ℕ) (xs tl : Timeline) → AreAt t xs → t ≤ latest tl → latest (xs ++ tl) ≡ latest tl
+level t [] tl h le = refl
+level t (e ∷ xs) tl h le =
+    let more : latest (xs ++ tl) ≡ latest tl = level t xs tl h.1 le in
+    let at : event_time e ≡ t = h.0 in
+    ap (λ (n : ℕ). max n (latest (xs ++ tl))) at ∙ ap (max t) more ∙ max_le t (latest tl) le
+  where
+    max_le : (a b : ℕ) → a ≤ b → max a b ≡ b
+    max_le a b le = omega (arith, le)
 
-pub begins : (s : ℕ → Settings) (base : Base) (limit : ℕ) (ls : List Lane) (last : ℕ) (told : List BinLine) (tl : Timeline) → LanesRest s base (length ls) ls told tl → last ≡ latest tl → LanesOnWay s base (length ls) limit ls last told tl
-begins s base limit ls last told tl h e = record { now = tl; at = record { rest = h; last_is = e }; same = refl }
+-- what happened at the latest time doesn't raise it
+pub added_level : (t : ℕ) (old new : Timeline) → Adds t old new → t ≤ latest old → latest new ≡ latest old
+added_level t old new h le = ap latest h.is ∙ level t h.more old h.at le
 
-pub goes_on :
-    (s : ℕ → Settings) (base : Base) (count limit : ℕ) (w : Wake) (ls : List Lane) (was new : Lane) (last : ℕ) (told more : List BinLine) (tl : Timeline)
-    → ((now : Timeline) → due limit (first_wake (wake s now) count) ≡ Some w → served s count limit now ≡ served s count limit (ticked s w.time w.lane now))
-    → ((now : Timeline) → latest (ticked s w.time w.lane now) ≡ max w.time (latest now))
-    → length ls ≡ count
-    → LanesOnWay s base count limit ls last told tl
-    → due limit (first_wake (wakes_in ls) (length ls)) ≡ Some w
-    → w.lane < length ls → was ≡ get_or ls w.lane was
-    → ((now : Timeline) → LaneTells s (around base ls w.lane now) w.lane was told now → LaneRests s (around base ls w.lane now) w.lane new more (ticked s w.time w.lane now))
-    → LanesOnWay s base count limit (set ls w.lane new) (max w.time last) more tl
-goes_on s base count limit w ls was new last told more tl step later long g e below is keeps =
-    let found : due limit (first_wake (wake s g.now) count) ≡ Some w = same_due s base count limit ls told g.now (Some w) long g.at.rest e in
-    let same_long : length (set ls w.lane new) ≡ length ls = length-set ls w.lane new in
+-- something came to the front, and more happened at the same time
+pub fronted_latest : (t : ℕ) (e : FrontEvent) (tl new : Timeline) → Adds t (Fronted t e ∷ tl) new → latest new ≡ max (latest tl) t
+fronted_latest t e tl new h =
+    let le : t ≤ max t (latest tl) = omega arith in
+    added_level t (Fronted t e ∷ tl) new h le ∙ max_comm t (latest tl)
+
+pub taken_adds : (c : Contents) (t : ℕ) (e : FrontEvent) (tl : Timeline) → Adds t (Fronted t e ∷ tl) (taken c t e tl)
+taken_adds c t e tl =
+    let there : Timeline = fronted c t e tl in
+    then_more t (Fronted t e ∷ tl) there (taken c t e tl) (all_stepped_extend c t (steps c (front tl) e) (Fronted t e ∷ tl))
+    (ticked_where_extend c (opened c there) t (is_touched (lane_count tl) (steps c (front tl) e)) (lane_count there) there)
+
+-- ---- report times
+
+-- the next report time hangs on the last one
+pub next_same : (c : Contents) (old new : Timeline) → last_report (front new) ≡ last_report (front old) → next_report c new ≡ next_report c old
+next_same c old new e = ap (λ (n : ℕ). if c.settings.report == 0 then None else Some (n + c.settings.report)) e
+
+pub reported_next : (c : Contents) (t : ℕ) (tl : Timeline) → next_report c (fronted c t (ReportsDue t) tl) ≡ next_by c.settings.report t
+reported_next c t tl = ap (λ (es : List FrontEvent). if c.settings.report == 0 then None else Some (last_report es + c.settings.report)) (reported_front c t tl)
+
+taken_last : (c : Contents) (t : ℕ) (e : FrontEvent) (tl : Timeline) → last_report (front (taken c t e tl)) ≡ last_report (e ∷ front tl)
+taken_last c t e tl =
+    let there : Timeline = fronted c t e tl in
+    where_last c (opened c there) t (is_touched (lane_count tl) (steps c (front tl) e)) (lane_count there) there
+    ∙ ap last_report (all_stepped_front c t (steps c (front tl) e) (Fronted t e ∷ tl))
+
+-- ---- what is served
+
+pub reports_at :
+    (c : Contents) (base : Base) (t interval : ℕ) (next : Option ℕ) (last : ℕ) (old : Agenda) (stage : Stage) (before after : List BinLine) (tl : Timeline)
+    → interval ≡ old.interval → next ≡ next_by old.interval t → last ≡ max old.latest t
+    → GoesOn old.stage stage before after (λ k. fronted k t (ReportsDue t))
+    → Holds c base old before tl
+    → Holds c base (record { stage = stage; interval = interval; next_report = next; latest = last }) after (fronted c t (ReportsDue t) tl)
+reports_at c base t interval next last old stage before after tl same next_is last_is goes h =
     record {
-      now = ticked s w.time w.lane g.now;
-      at =
-          record {
-            rest = all_rest s base (length ls) (length (set ls w.lane new)) ls w.lane new told more g.now (ticked s w.time w.lane g.now) below (λ k lt ne. omega arith) g.at.rest.tells g.at.rest.wakes_are
-                (keeps g.now (one_tells s base ls w.lane was told g.now below is g.at.rest.tells));
-            last_is = ap (max w.time) g.at.last_is ∙ sym (later g.now);
-          };
-      same = sym (step g.now found) ∙ g.same;
+      stage = goes c base tl h.stage;
+      interval = same ∙ h.interval;
+      next = next_is ∙ ap (λ (n : ℕ). next_by n t) h.interval ∙ sym (reported_next c t tl);
+      last = last_is ∙ ap (λ (n : ℕ). max n t) h.last
+          ∙ sym (fronted_latest t (ReportsDue t) tl (fronted c t (ReportsDue t) tl) (all_stepped_extend c t (steps c (front tl) (ReportsDue t)) (Fronted t (ReportsDue t) ∷ tl)));
     }
 
-pub ends :
-    (s : ℕ → Settings) (base : Base) (count limit : ℕ) (ls : List Lane) (last : ℕ) (told : List BinLine) (tl : Timeline)
-    → ((now : Timeline) → due limit (first_wake (wake s now) count) ≡ None → served s count limit now ≡ now)
-    → length ls ≡ count
-    → LanesOnWay s base count limit ls last told tl
-    → due limit (first_wake (wakes_in ls) (length ls)) ≡ None
-    → LanesServed s base ls last told (served s count limit tl)
-ends s base count limit ls last told tl stop long g e =
-    subst (LanesServed s base ls last told) (sym (stop g.now (same_due s base count limit ls told g.now None long g.at.rest e)) ∙ g.same) g.at
+pub turns_at :
+    (c : Contents) (base : Base) (t n last : ℕ) (old : Agenda) (stage : Stage) (before after : List BinLine) (tl : Timeline)
+    → last ≡ max old.latest t
+    → Ticks t n old.stage stage before after
+    → Holds c base old before tl
+    → Holds c base (record { stage = stage; interval = old.interval; next_report = old.next_report; latest = last }) after (ticked c (opened c tl) t n tl)
+turns_at c base t n last old stage before after tl last_is ticks h =
+    let new : Timeline = ticked c (opened c tl) t n tl in
+    record {
+      stage = tells_fewer c base (resting_and n all_resting) all_resting stage after new (λ k lt e. and_other all_resting n k (λ ne. refl)) (ticks c base all_resting tl h.stage);
+      interval = h.interval;
+      next = h.next ∙ sym (ticked_reports c (opened c tl) true t n tl);
+      last = last_is ∙ ap (λ (m : ℕ). max m t) h.last ∙ max_comm (latest tl) t ∙ sym (ticked_latest c (opened c tl) t n tl);
+    }
 
--- one wake less is left
-pub falls :
-    (limit : ℕ) (w : Wake) (ls : List Lane) (new : Lane)
-    → ((old new : ℕ → Option ℕ) (count limit : ℕ) (w : Wake) → due limit (first_wake old count) ≡ Some w → IsLater w.time (new w.lane) → ((k : ℕ) → k ≢ w.lane → new k ≡ old k) → rooms limit new count < rooms limit old count)
-    → due limit (first_wake (wakes_in ls) (length ls)) ≡ Some w
-    → w.lane < length ls
-    → IsLater w.time new.wake
-    → wakes_left limit (set ls w.lane new) < wakes_left limit ls
-falls limit w ls new law e below later =
-    subst (λ (n : ℕ). rooms limit (wakes_in (set ls w.lane new)) n < rooms limit (wakes_in ls) (length ls)) (sym (length-set ls w.lane new))
-    (law (wakes_in ls) (wakes_in (set ls w.lane new)) (length ls) limit w e (subst (IsLater w.time) (sym (wakes_same ls w.lane new below)) later) (λ k ne. wakes_other ls w.lane k new ne))
+pub takes_at :
+    (c : Contents) (base : Base) (t last : ℕ) (e : FrontEvent) (mid : Agenda) (stage : Stage) (before after : List BinLine) (tl : Timeline)
+    → last_report (e ∷ front tl) ≡ last_report (front tl) → last ≡ max mid.latest t
+    → GoesOn mid.stage stage before after (λ k. taken k t e)
+    → Holds c base mid before tl
+    → Holds c base (record { stage = stage; interval = mid.interval; next_report = mid.next_report; latest = last }) after (taken c t e tl)
+takes_at c base t last e mid stage before after tl no_report last_is goes h =
+    record {
+      stage = goes c base tl h.stage;
+      interval = h.interval;
+      next = h.next ∙ sym (next_same c tl (taken c t e tl) (taken_last c t e tl ∙ no_report));
+      last = last_is ∙ ap (λ (n : ℕ). max n t) h.last ∙ sym (fronted_latest t e tl (taken c t e tl) (taken_adds c t e tl));
+    }
 
--- the search goes over the lanes through a view of them
-pub due_at : (limit : ℕ) (ls view : List Lane) (r o : Option Wake) → view ≡ ls → r ≡ due limit (first_wake (wakes_in view) (length view)) → r ≡ o → due limit (first_wake (wakes_in ls) (length ls)) ≡ o
-due_at limit ls view r o same is e = ap (λ (xs : List Lane). due limit (first_wake (wakes_in xs) (length xs))) (sym same) ∙ sym is ∙ e
+-- ---- all that is due
 
-pub not_true : false ≡ true → ⊥
-not_true e = cc
+abbrev pub Steps : Type 0
+Steps =
+    (c : Contents) (o : ℕ → Opening) (reports : Bool) (count limit : ℕ) (tl : Timeline) (d : Due)
+    → first_due c o reports count limit tl ≡ Some d
+    → serve c o reports count limit tl ≡ serve c o reports count limit (serve_one c o d tl)
 
-pub not_false : true ≡ false → ⊥
-not_false e = cc
+abbrev pub Stops : Type 0
+Stops =
+    (c : Contents) (o : ℕ → Opening) (reports : Bool) (count limit : ℕ) (tl : Timeline)
+    → first_due c o reports count limit tl ≡ None → serve c o reports count limit tl ≡ tl
 
--- lanes on the way, by the count of lanes that there were at the begin
-pub stays_on : (s : ℕ → Settings) (base : Base) (count limit : ℕ) (old new : List Lane) (time last : ℕ) (before after : List BinLine) (tl : Timeline) → length old ≡ count → StayOnWay limit old new time last before after → LanesOnWay s base count limit old time before tl → LanesOnWay s base count limit new last after tl
-stays_on s base count limit old new time last before after tl e stays g =
-    subst (λ (n : ℕ). LanesOnWay s base n limit new last after tl) e (stays s base tl (subst (λ (n : ℕ). LanesOnWay s base n limit old time before tl) (sym e) g))
+-- one that is due first, and then the others
+pub served_after : Steps → (c : Contents) (reports : Bool) (limit : ℕ) (tl : Timeline) (d : Due) → due_first c reports limit tl ≡ Some d → all_served reports limit c (serve_one c (opened c tl) d tl) ≡ all_served reports limit c tl
+served_after step c reports limit tl d e =
+    let new : Timeline = serve_one c (opened c tl) d tl in
+    ap (λ (os : List Opening). serve c (λ l. opening_or c l (slice_get os l)) reports (length os) limit new) (one_openings c (opened c tl) d tl)
+    ∙ sym (step c (opened c tl) reports (lane_count tl) limit tl d e)
 
-pub is_served : (s : ℕ → Settings) (base : Base) (count limit : ℕ) (old new : List Lane) (time last : ℕ) (before after : List BinLine) (tl : Timeline) → length old ≡ count → AreServed limit old new time last before after → LanesOnWay s base count limit old time before tl → LanesServed s base new last after (served s count limit tl)
-is_served s base count limit old new time last before after tl e serves g =
-    subst (λ (n : ℕ). LanesServed s base new last after (served s n limit tl)) e (serves s base tl (subst (λ (n : ℕ). LanesOnWay s base n limit old time before tl) (sym e) g))
+-- on the way
+pub record OnWay (reports : Bool) (limit : ℕ) (agenda : Agenda) (told : List BinLine) (c : Contents) (base : Base) (tl : Timeline) : Type 0 where
+  pub now : Timeline
+  pub holds : Holds c base agenda told now
+  pub same : all_served reports limit c now ≡ all_served reports limit c tl
+
+abbrev pub StaysOnWay : Bool → ℕ → Agenda → Agenda → List BinLine → List BinLine → Type 0
+StaysOnWay reports limit old new before after =
+    (c : Contents) (base : Base) (tl : Timeline) → Holds c base old before tl → OnWay reports limit new after c base tl
+
+pub one_more :
+    (reports : Bool) (limit : ℕ) (s mid new : Agenda) (before between after : List BinLine)
+    → Steps → ServesFirst reports limit mid new between after
+    → StaysOnWay reports limit s mid before between → StaysOnWay reports limit s new before after
+one_more reports limit s mid new before between after step serves h c base tl holds =
+    let way : OnWay reports limit mid between c base tl = h c base tl holds in
+    let one : (d : Due) × (due_first c reports limit way.now ≡ Some d) × Holds c base new after (serve_one c (opened c way.now) d way.now) = serves c base way.now way.holds in
+    record { now = serve_one c (opened c way.now) one.0 way.now; holds = one.2; same = served_after step c reports limit way.now one.0 one.1 ∙ way.same }
+
+pub none_more :
+    (reports : Bool) (limit : ℕ) (s mid new : Agenda) (before between after : List BinLine)
+    → Stops → ServesNothing reports limit mid new between after
+    → StaysOnWay reports limit s mid before between
+    → GoesTo s new before after (all_served reports limit)
+none_more reports limit s mid new before between after stop serves h c base tl holds =
+    let way : OnWay reports limit mid between c base tl = h c base tl holds in
+    let none : (due_first c reports limit way.now ≡ None) × Holds c base new after way.now = serves c base way.now way.holds in
+    subst (λ (x : Timeline). Holds c base new after x) (sym (stop c (opened c way.now) reports (lane_count way.now) limit way.now none.0) ∙ way.same) none.1
+
+-- ---- the first report time
+
+pub first_none : (c : Contents) (n : ℕ) (o : Option ℕ) → n ≡ c.settings.report → n ≡ 0 → o ≡ None → o ≡ next_report c []
+first_none c n o same zero_is e =
+    let none : (c.settings.report == 0) ≡ true = grind (arith, common_steps) in
+    e ∙ sym (ap (λ (b : Bool). if b then None else Some (0 + c.settings.report)) none)
+
+pub first_some : (c : Contents) (n : ℕ) (o : Option ℕ) → n ≡ c.settings.report → n ≢ 0 → o ≡ Some n → o ≡ next_report c []
+first_some c n o same more e =
+    let some : (c.settings.report == 0) ≡ false = grind (arith, common_steps) in
+    let num : n ≡ 0 + c.settings.report = omega (arith, same) in
+    e ∙ ap (λ (k : ℕ). Some k) num ∙ sym (ap (λ (b : Bool). if b then None else Some (0 + c.settings.report)) some)
+
+-- ---- items
+
+-- What adds an item isn't nothing.
+some_added : (t : ℕ) (i : Item) (old new : Timeline) → Adds t old new → items new ≡ i ∷ items old → latest new ≡ max t (latest old)
+some_added t i old new h e = go h.more h.is h.at
+  where
+    longer : (xs : List Item) → xs ≡ i ∷ xs → ⊥
+    longer xs q = let long : length xs ≡ length xs + 1 = ap (λ (ys : List Item). length ys) q ∙ add_one (length xs) in omega (arith, long)
+      where
+        add_one : (n : ℕ) → suc n ≡ n + 1
+        add_one n = omega arith
+
+    same_max : (a b : ℕ) → max a (max a b) ≡ max a b
+    same_max a b = omega arith
+
+    raised : (xs : Timeline) (x : Event) → AreAt t (x ∷ xs) → latest ((x ∷ xs) ++ old) ≡ max t (latest old)
+    raised [] x at = ap (λ (n : ℕ). max n (latest old)) at.0
+    raised (y ∷ xs) x at =
+        ap (λ (n : ℕ). max n (latest ((y ∷ xs) ++ old))) at.0 ∙ ap (max t) (raised xs y at.1) ∙ same_max t (latest old)
+
+    go : (xs : Timeline) → new ≡ xs ++ old → AreAt t xs → latest new ≡ max t (latest old)
+    go [] is at = absurd (longer (items old) (sym (ap items is) ∙ e))
+    go (x ∷ xs) is at = ap latest is ∙ raised xs x at
+
+item_items : (c : Contents) (i : Item) (tl : Timeline) → items (with_item c i tl) ≡ i ∷ items tl
+item_items c i tl =
+    where_items c (opened c tl) i.time (λ l. is_for i.action (opened c tl l).session) (lane_count tl) (all_acted (opened c tl) i.time (lane_count tl) i.action (Acted i ∷ tl))
+    ∙ acted_items (opened c tl) i.time (lane_count tl) i.action (Acted i ∷ tl)
+  where
+    where_items : (c : Contents) (o : ℕ → Opening) (t : ℕ) (passes : ℕ → Bool) (count : ℕ) (tl : Timeline) → items (ticked_where c o t passes count tl) ≡ items tl
+    where_items c o t passes zero tl = refl
+    where_items c o t passes (suc k) tl =
+        by_cases (passes k)
+        (λ b. ap items (where_yes c o t passes k tl b) ∙ settled_items c o t k (At t k (Clock t) ∷ ticked_where c o t passes k tl) ∙ where_items c o t passes k tl)
+        (λ b. ap items (where_not c o t passes k tl b) ∙ where_items c o t passes k tl)
+
+item_last : (c : Contents) (i : Item) (tl : Timeline) → last_report (front (with_item c i tl)) ≡ last_report (front tl)
+item_last c i tl =
+    where_last c (opened c tl) i.time (λ l. is_for i.action (opened c tl l).session) (lane_count tl) (all_acted (opened c tl) i.time (lane_count tl) i.action (Acted i ∷ tl))
+    ∙ ap last_report (acted_front (opened c tl) i.time (lane_count tl) i.action (Acted i ∷ tl))
+
+pub controls_at :
+    (c : Contents) (base : Base) (i : Item) (last : ℕ) (mid : Agenda) (stage : Stage) (before after : List BinLine) (tl : Timeline)
+    → last ≡ max mid.latest i.time
+    → GoesOn mid.stage stage before after (λ k. with_item k i)
+    → Holds c base mid before tl
+    → Holds c base (record { stage = stage; interval = mid.interval; next_report = mid.next_report; latest = last }) after (with_item c i tl)
+controls_at c base i last mid stage before after tl last_is goes h =
+    record {
+      stage = goes c base tl h.stage;
+      interval = h.interval;
+      next = h.next ∙ sym (next_same c tl (with_item c i tl) (item_last c i tl));
+      last = last_is ∙ ap (λ (n : ℕ). max n i.time) h.last ∙ max_comm (latest tl) i.time
+          ∙ sym (some_added i.time i tl (with_item c i tl) (acted_extend c (opened c tl) (lane_count tl) i tl) (item_items c i tl));
+    }
+
+-- ---- the end
+
+serve_opened : (c : Contents) (tl : Timeline) → openings (all_served false END_OF_TIME c tl) ≡ openings tl
+serve_opened c tl = serve_openings _ c (opened c tl) false (lane_count tl) END_OF_TIME tl
+
+pub finishes_at :
+    (c : Contents) (base : Base) (mid : Agenda) (start before after : List BinLine) (tl : Timeline)
+    → Finishes mid.latest mid.stage before after
+    → Holds c base mid before (all_served false END_OF_TIME c tl)
+    → AddsLines base after (with_done (closed c tl))
+finishes_at c base mid start before after tl ends h =
+    let last : Timeline = all_served false END_OF_TIME c tl in
+    let lowered : StageTells c base none_resting mid.stage before last = tells_fewer c base all_resting none_resting mid.stage before last (λ k lt e. refl) h.stage in
+    let all : AddsLines base after (with_done (all_ended c (opened c last) mid.latest (lane_count last) last)) = ends c base last lowered in
+    let opens : openings last ≡ openings tl = serve_opened c tl in
+    subst (λ (t : ℕ). AddsLines base after (with_done (all_ended c (opened c tl) t (lane_count tl) last))) h.last
+    (subst (λ (os : List Opening). AddsLines base after (with_done (all_ended c (λ l. opening_or c l (slice_get os l)) mid.latest (length os) last))) opens all)

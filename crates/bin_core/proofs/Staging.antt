@@ -1,166 +1,405 @@
--- A bin goes on along the timeline.
-use Rattle.std.proofs.Common.{ℕ, ◌≡◌, ◌≤◌, ◌+◌, sym, ap, subst, ◌∙◌, List, [], ◌∷◌, ◌++◌, length}
-use Rattle.std.specs.Prelude.{sum_by}
-use Rattle.std.proofs.lemmas.List.{append-nil}
+-- A stage along the timeline.
+use Rattle.std.proofs.Common.{ℕ, zero, suc, ◌≡◌, ◌≢◌, ◌+◌, ◌<◌, ◌≤◌, Bool, true, false, not, refl, sym, ap, subst, ◌∙◌, List, [], ◌∷◌, ◌++◌, length, Some, arith}
+use Rattle.std.specs.Prelude.{All, ◌==◌, get_or, set, slice_get, slice_index_or, if◌then◌else◌}
+use Rattle.std.proofs.lemmas.Grind.{common_steps}
+use Rattle.std.proofs.lemmas.List.{append_assoc, append-nil, length-set, length_push}
+use Rattle.std.proofs.lemmas.List.Elements.{All-nil, All-head, All-tail, All-cons}
+use Rattle.jitter_model.specs.declared.Arrival.{Arrival}
+use Rattle.jitter_model.specs.declared.Entry.{Entry}
+use Rattle.jitter_model.specs.declared.Entry.TheVariants.{Latency}
+use Rattle.script_lang.specs.Contents.{Contents}
+use Rattle.script_lang.specs.declared.script.Item.{Item}
 use Rattle.timeline.specs.declared.line.BinLine.{BinLine}
-use Rattle.timeline.specs.declared.line.BinLine.TheVariants as told
-use Rattle.log_model.specs.declared.TheConstants.{END_OF_TIME}
-use Rattle.log_model.specs.declared.Control.{Control}
-use Rattle.log_model.specs.declared.Heard.{Heard}
-use Rattle.log_model.specs.declared.Item.{Item}
-use Rattle.log_model.specs.declared.Profile.{Profile}
-use Rattle.log_model.specs.declared.Source.{Source}
-use Rattle.log_model.specs.Inputs.{Input, OfCapture, records_in}
-use Rattle.log_model.specs.Times.{Timed}
-use Rattle.log_model.specs.Captured.{IsControl}
-use Rattle.log_model.specs.Front.{sources, heard_of, with_heard, brought, brings}
-use Rattle.log_model.specs.Standings.{standing, after_control}
-use Rattle.log_model.specs.Events.{Timeline, Came, latest, lines, out_in, lost_in, refused_in, done_line}
-use Rattle.log_model.specs.Waking.{served, all_acted, all_ticked, controlled, all_ended}
-use Rattle.log_model.specs.Log.{lane_settings, lanes_in, timeline, whole_timeline, with_brought}
-use Rattle.log_model.specs.declared.Standing.{Standing}
-use Rattle.log_model.specs.declared.Control.TheVariants as control
-use Rattle.bin_core.specs.declared.lane.Lane.{Lane}
+use Rattle.ntp_sync.specs.Offsets.{Call, StandsFor as SyncStandsFor}
+use Rattle.front_model.specs.declared.Opening.{Opening}
+use Rattle.front_model.specs.declared.Step.{Step}
+use Rattle.front_model.specs.declared.Step.TheVariants as step
+use Rattle.front_model.specs.Events.{FrontEvent}
+use Rattle.rtp_front.specs.Standing.{State as FrontState, StandsFor as FrontStandsFor}
+use Rattle.replay_model.specs.Events.{Timeline, Fronted, Began, Told, At, front, kept, lane, openings, items}
+use Rattle.replay_model.specs.Lines.{lines}
+use Rattle.replay_model.specs.Lanes.{lane_count, opened, latency_of, is_flushing_of, latency_after, is_flushing_after}
+use Rattle.replay_model.specs.Turning.{all_turns, asked, settled}
+use Rattle.replay_model.specs.Taking.{touches, flushed_at_begin, begun, fronted, all_stepped}
+use Rattle.front_model.specs.Steps.{steps}
+use Rattle.replay_model.proofs.Lanes.{by_cases}
+use Rattle.replay_model.proofs.Turning.{settled_lane, settled_items}
+use Rattle.replay_model.proofs.Keeping.{settled_openings, same_opened}
+use Rattle.lane_core.specs.declared.lane.Lane.{Lane}
+use Rattle.lane_core.specs.Lanes.{GoesOn as LaneGoesOn, pushed_at, Base, Around, LaneTells, LaneRests, LaneAsks}
+use Rattle.lane_core.specs.AllLanes.{LanesRest, BeginsAs, AddsLane, Open, all_resting, resting_and, resting_but, wakes_in}
+use Rattle.lane_core.proofs.Placing.{around, one_tells, wakes_other, lanes_go_on, lanes_rest, lanes_apart, lanes_opened, lanes_fewer}
+use Rattle.bin_core.specs.declared.standings.Standing.{Standing}
 use Rattle.bin_core.specs.declared.stage.Stage.{Stage}
-use Rattle.bin_core.specs.Lanes.{Base, Adds, Tally}
-use Rattle.bin_core.specs.AllLanes.{sources_in, out_of, lost_of, refused_of, done_of, LanesTell, LanesRest, LanesServed}
-use Rattle.bin_core.specs.Bins.{LanesStand, StandsFor, StageTakes, StageEnds}
-use Rattle.bin_core.proofs.Fronting.{sources_length, came_rests}
+use Rattle.bin_core.specs.Stages.{standing, nack_lines, requests_behind, none_resting, counts_none, Sends, StageTells, Begins, AreApart, AreTold, TellsAll, Does, SameButOne}
+use Rattle.bin_core.proofs.Counting.{line_sums}
+use Rattle.bin_core.proofs.Sending.{turns_of, nack_sums, series_front, series_kept, series_lines}
 
--- what the lines were before a call
-abbrev pub from : List BinLine → Timeline → Base
-from told tl = record { before = told; log = lines tl }
+-- the same lanes began, the same reports were kept, and the same items came
+pub record SameBeside (old new : Timeline) : Type 0 where
+  pub openings_are : openings new ≡ openings old
+  pub kept_are : kept new ≡ kept old
+  pub items_are : items new ≡ items old
 
--- at the begin of a call
-pub begin : (s : Profile) (ls : List Lane) (xs : List Input) (told : List BinLine) (tl : Timeline) → LanesStand s ls xs tl → LanesRest (lane_settings s) (from told tl) (length ls) ls told tl
-begin s ls xs told tl h =
+-- beside the lanes and the front a stage is the same
+pub record SameStage (old new : Stage) : Type 0 where
+  pub count : length new.lanes.items ≡ length old.lanes.items
+  pub sync : new.sync ≡ old.sync
+  pub standings : new.standings ≡ old.standings
+
+-- how many lanes there are, by openings
+count_same : (old new : Timeline) → openings new ≡ openings old → lane_count new ≡ lane_count old
+count_same old new e = ap (λ (os : List Opening). length os) e
+
+-- how a session stands, by the items
+abbrev pub standing_by_items : Contents → ℕ → List Item → Standing
+standing_by_items c session xs = record { latency = latency_after c session xs; flushing = is_flushing_after session xs }
+
+pub tells_on :
+    (c : Contents) (base : Base) (resting rests : ℕ → Bool) (s s' : Stage) (told more : List BinLine) (tl after : Timeline)
+    → StageTells c base resting s told tl
+    → SameBeside tl after
+    → SameStage s s'
+    → FrontStandsFor s'.front c (front after)
+    → LanesRest (opened c tl) base rests s'.lanes.items more after
+    → StageTells c base rests s' more after
+tells_on c base resting rests s s' told more tl after h beside same fronts lanes =
+    let count : lane_count after ≡ lane_count tl = count_same tl after beside.openings_are in
     record {
-      tells = record { each = h.each; silent = h.silent; tallies = h.tallies; written = record { more = []; told_is = sym (append-nil told); all_is = sym (append-nil (lines tl)) } };
-      wakes_are = h.wakes_are;
+      count = same.count ∙ h.count ∙ sym count;
+      few = omega (arith, h.few);
+      lanes = lanes_opened (opened c tl) (opened c after) base rests s'.lanes.items more after (λ k lt. sym (same_opened c tl after k beside.openings_are)) lanes;
+      front = fronts;
+      sync = subst (λ (x : List Call). SyncStandsFor s'.sync x) (sym beside.kept_are) (subst (λ x. SyncStandsFor x (kept tl)) (sym same.sync) h.sync);
+      lanes_kept = subst (λ (x : List Call). All (λ (call : Call). call.lane < lane_count after) x) (sym beside.kept_are)
+          (subst (λ (n : ℕ). All (λ (call : Call). call.lane < n) (kept tl)) (sym count) h.lanes_kept);
+      standings = λ session lt.
+          ap (λ x. slice_get x session) same.standings ∙ h.standings session lt
+          ∙ ap (λ (x : List Item). Some (standing_by_items c session x)) (sym beside.items_are);
     }
 
--- as many lanes as sources
-pub lanes_are : (s : Profile) (ls : List Lane) (xs : List Input) → sources_in ls ≡ sources s (records_in xs) → length ls ≡ lanes_in s xs
-lanes_are s ls xs e = sym (sources_length ls) ∙ ap (λ (ys : List Source). length ys) e
-
--- an input was taken
-pub taken :
-    (s : Profile) (older : List Input) (x : Input) (new : Stage) (told after : List BinLine)
-    → new.profile ≡ s
-    → new.standing ≡ standing s (x ∷ older)
-    → new.records ≡ length (records_in (x ∷ older))
-    → new.time ≡ latest (timeline s (x ∷ older))
-    → sources_in new.lanes.items ≡ sources s (records_in (x ∷ older))
-    → LanesRest (lane_settings s) (from told (timeline s older)) (length new.lanes.items) new.lanes.items after (timeline s (x ∷ older))
-    → StageTakes s older x told after new
-taken s older x new told after profile stands records time sources h =
-    let a : Adds (from told (timeline s older)) after (lines (timeline s (x ∷ older))) = h.tells.written in
+-- fewer lanes are at rest
+pub tells_fewer :
+    (c : Contents) (base : Base) (resting fewer : ℕ → Bool) (s : Stage) (told : List BinLine) (tl : Timeline)
+    → ((k : ℕ) → k < length s.lanes.items → fewer k ≡ true → resting k ≡ true)
+    → StageTells c base resting s told tl
+    → StageTells c base fewer s told tl
+tells_fewer c base resting fewer s told tl le h =
     record {
-      told = a.more;
-      added = a.told_is;
-      line = a.all_is;
-      stands = record {
-        profile = profile;
-        standing = stands;
-        records = records;
-        time = time;
-        lanes = record { sources_are = sources; each = h.tells.each; wakes_are = h.wakes_are; silent = h.tells.silent; tallies = h.tells.tallies };
-      };
+      count = h.count;
+      few = h.few;
+      lanes = lanes_fewer (opened c tl) base resting fewer s.lanes.items told tl le h.lanes;
+      front = h.front;
+      sync = h.sync;
+      lanes_kept = h.lanes_kept;
+      standings = h.standings;
     }
 
--- ---- the end
+-- A lane takes a call and turns, and what it asked for is sent.
+pub settles :
+    (c : Contents) (base : Base) (resting : ℕ → Bool) (s s' : Stage) (n t : ℕ) (e : Entry) (was b : Lane) (numbers : List ℕ) (before mid after : List BinLine) (tl : Timeline)
+    → n < length s.lanes.items → was ≡ get_or s.lanes.items n was
+    → s'.lanes.items ≡ set s.lanes.items n b → s'.sync ≡ s.sync → s'.standings ≡ s.standings
+    → ((o : ℕ → Opening) (a : Around) (k : ℕ) (now : Timeline) → LaneTells o a k was before now → LaneAsks o a k b numbers mid (all_turns o t k (At t k e ∷ now)))
+    → Sends t b.session b.ssrc numbers s.front s'.front mid after
+    → StageTells c base resting s before tl
+    → StageTells c base (resting_and n resting) s' after (settled c (opened c tl) t n (At t n e ∷ tl))
+settles c base resting s s' n t e was b numbers before mid after tl lt is lanes_are sync_is standings_are goes sends h =
+    tells_on c base resting (resting_and n resting) s s' before after tl new h beside same fronts rested
+  where
+    o : ℕ → Opening
+    o = opened c tl
 
-done_same : (records a b c d a' b' c' d' : ℕ) → a ≡ a' → b ≡ b' → c ≡ c' → d ≡ d' → told.Done records a b c d ≡ told.Done records a' b' c' d'
-done_same records a b c d a' b' c' d' p q r t = cc
+    mid_tl : Timeline
+    mid_tl = turns_of o t n e tl
 
-pub finished :
-    (s : Profile) (xs : List Input) (stage : Stage) (ls : List Lane) (last : ℕ) (before between after : List BinLine) (x : BinLine)
-    → StandsFor s stage xs
-    → length ls ≡ lanes_in s xs
-    → last ≡ latest (served (lane_settings s) (lanes_in s xs) END_OF_TIME (timeline s xs))
-    → LanesTell (lane_settings s) (from before (timeline s xs)) ls between (all_ended (lane_settings s) s.session last (lanes_in s xs) (served (lane_settings s) (lanes_in s xs) END_OF_TIME (timeline s xs)))
-    → x ≡ done_of ls stage.records
-    → after ≡ between ++ x ∷ []
-    → StageEnds s xs before after
-finished s xs stage ls last before between after x st long late h x_is e =
-    let h' : LanesTell (lane_settings s) (from before (timeline s xs)) ls between (whole_timeline s xs) =
-    subst (λ (t : ℕ). LanesTell (lane_settings s) (from before (timeline s xs)) ls between (all_ended (lane_settings s) s.session t (lanes_in s xs) (served (lane_settings s) (lanes_in s xs) END_OF_TIME (timeline s xs)))) late h in
-    let a : Adds (from before (timeline s xs)) between (lines (whole_timeline s xs)) = h'.written in
-    let k : Tally _ (lines (whole_timeline s xs)) = h'.tallies in
-    let done : x ≡ done_line (length (records_in xs)) (lanes_in s xs) (lines (whole_timeline s xs)) =
-    x_is ∙ ap (done_of ls) st.records
-    ∙ done_same (length (records_in xs)) (length ls) (sum_by out_of ls) (sum_by lost_of ls) (sum_by refused_of ls) (lanes_in s xs) (sum_by out_in (lines (whole_timeline s xs))) (sum_by lost_in (lines (whole_timeline s xs))) (sum_by refused_in (lines (whole_timeline s xs))) long k.out k.lost k.refused in
+    new : Timeline
+    new = settled c o t n (At t n e ∷ tl)
+
+    beside : SameBeside tl new
+    beside = record { openings_are = settled_openings c o t n (At t n e ∷ tl); kept_are = series_kept c o t n e tl; items_are = settled_items c o t n (At t n e ∷ tl) }
+
+    same : SameStage s s'
+    same = record { count = ap (λ (x : List Lane). length x) lanes_are ∙ length-set s.lanes.items n b; sync = sync_is; standings = standings_are }
+
+    asks : LaneAsks o (around base s.lanes.items n tl) n b numbers mid mid_tl
+    asks = goes o (around base s.lanes.items n tl) n tl (one_tells o base s.lanes.items n was before tl lt is h.lanes.tells)
+
+    rest_mid : LanesRest o base (resting_and n resting) (set s.lanes.items n b) mid mid_tl
+    rest_mid = lanes_rest o base resting s.lanes.items n was b before mid tl mid_tl lt is h.lanes (λ k. asks.rests)
+
+    session_is : b.session ≡ (o n).session
+    session_is = asks.rests.tells.holds.session_is
+
+    ssrc_is : b.ssrc ≡ (o n).ssrc
+    ssrc_is = asks.rests.tells.holds.ssrc_is
+
+    sent_is : (FrontStandsFor s'.front c (requests_behind b.session b.ssrc numbers (front tl))) × (after ≡ mid ++ nack_lines c t b.session b.ssrc numbers)
+    sent_is = sends c (front tl) h.front
+
+    asked_are : numbers ≡ asked (lane n mid_tl)
+    asked_are = asks.asked_is
+
+    fronts : FrontStandsFor s'.front c (front new)
+    fronts =
+        subst (λ (x : List FrontEvent). FrontStandsFor s'.front c x)
+        (ap (λ (x : ℕ). requests_behind x b.ssrc numbers (front tl)) session_is ∙ ap (λ (x : ℕ). requests_behind (o n).session x numbers (front tl)) ssrc_is
+        ∙ ap (λ (x : List ℕ). requests_behind (o n).session (o n).ssrc x (front tl)) asked_are ∙ sym (series_front c o t n e tl)) sent_is.0
+
+    nacks : List BinLine
+    nacks = nack_lines c t (o n).session (o n).ssrc (asked (lane n mid_tl))
+
+    added : after ≡ mid ++ nacks
+    added =
+        sent_is.1 ∙ ap (λ (x : ℕ). mid ++ nack_lines c t x b.ssrc numbers) session_is ∙ ap (λ (x : ℕ). mid ++ nack_lines c t (o n).session x numbers) ssrc_is
+        ∙ ap (λ (x : List ℕ). mid ++ nack_lines c t (o n).session (o n).ssrc x) asked_are
+
+    rested : LanesRest o base (resting_and n resting) s'.lanes.items after new
+    rested =
+        subst (λ (x : List Lane). LanesRest o base (resting_and n resting) x after new) (sym lanes_are)
+        (lanes_apart o base (resting_and n resting) (set s.lanes.items n b) mid after nacks mid_tl new
+        (λ k. settled_lane c o t n k (At t n e ∷ tl)) (series_lines c o t n e tl) added (nack_sums c t (o n).session (o n).ssrc (asked (lane n mid_tl))) rest_mid)
+
+-- ---- what stays
+
+pub same_but_one : (s s' : Stage) (n : ℕ) (b : Lane) → s'.lanes.items ≡ set s.lanes.items n b → SameButOne n s s'
+same_but_one s s' n b e =
     record {
-      told = a.more;
-      added = e ∙ ap (λ (y : BinLine). between ++ y ∷ []) done ∙ ap (λ (ys : List BinLine). ys ++ done_line (length (records_in xs)) (lanes_in s xs) (lines (whole_timeline s xs)) ∷ []) a.told_is;
-      line = a.all_is;
+      count = ap (λ (x : List Lane). length x) e ∙ length-set s.lanes.items n b;
+      wakes = λ k ne. ap (λ (x : List Lane). wakes_in x k) e ∙ wakes_other s.lanes.items n k b ne;
     }
 
--- the latency stays small
-pub after_small : (c : Control) (k : Standing) → IsControl c → k.latency ≤ 600000000000 → (after_control c k).latency ≤ 600000000000
-after_small control.Clock k ok le = le
-after_small control.FlushStart k ok le = le
-after_small control.FlushStop k ok le = le
-after_small (control.Latency ns) k ok le = ok
+-- ---- a line
 
--- wakes of all lanes were served
-pub served_in :
-    (s : Profile) (xs : List Input) (old new : List Lane) (limit last : ℕ) (before after : List BinLine)
-    → LanesStand s old xs (timeline s xs)
-    → LanesServed (lane_settings s) (from before (timeline s xs)) new last after (served (lane_settings s) (length old) limit (timeline s xs))
-    → LanesServed (lane_settings s) (from before (timeline s xs)) new last after (served (lane_settings s) (lanes_in s xs) limit (timeline s xs))
-served_in s xs old new limit last before after st h =
-    subst (λ (n : ℕ). LanesServed (lane_settings s) (from before (timeline s xs)) new last after (served (lane_settings s) n limit (timeline s xs))) (lanes_are s old xs st.sources_are) h
+-- A line that counts nothing is told.
+pub told_tells :
+    (c : Contents) (base : Base) (resting : ℕ → Bool) (s : Stage) (t : ℕ) (x : BinLine) (before after : List BinLine) (tl : Timeline)
+    → counts_none x ≡ true → after ≡ before ++ x ∷ []
+    → StageTells c base resting s before tl
+    → StageTells c base resting s after (Told t x ∷ tl)
+told_tells c base resting s t x before after tl none e h =
+    tells_on c base resting resting s s before after tl (Told t x ∷ tl) h
+    (record { openings_are = refl; kept_are = refl; items_are = refl })
+    (record { count = refl; sync = refl; standings = refl })
+    h.front
+    (lanes_apart (opened c tl) base resting s.lanes.items before after (x ∷ []) tl (Told t x ∷ tl) (λ k. refl) refl e (line_sums x none) h.lanes)
 
-pub ended_in :
-    (s : Profile) (xs : List Input) (old new : List Lane) (session last : ℕ) (before after : List BinLine) (tl : Timeline)
-    → length old ≡ lanes_in s xs
-    → session ≡ s.session
-    → LanesTell (lane_settings s) (from before (timeline s xs)) new after (all_ended (lane_settings s) session last (length old) tl)
-    → LanesTell (lane_settings s) (from before (timeline s xs)) new after (all_ended (lane_settings s) s.session last (lanes_in s xs) tl)
-ended_in s xs old new session last before after tl long same h =
-    subst (λ (n : ℕ). LanesTell (lane_settings s) (from before (timeline s xs)) new after (all_ended (lane_settings s) s.session last n tl)) long
-    (subst (λ (n : ℕ). LanesTell (lane_settings s) (from before (timeline s xs)) new after (all_ended (lane_settings s) n last (length old) tl)) same h)
+-- Something came to the front.
+pub fronted_tells :
+    (c : Contents) (base : Base) (resting : ℕ → Bool) (s s' : Stage) (t : ℕ) (e : FrontEvent) (before : List BinLine) (tl : Timeline)
+    → s'.lanes.items ≡ s.lanes.items → s'.sync ≡ s.sync → s'.standings ≡ s.standings
+    → FrontStandsFor s'.front c (e ∷ front tl)
+    → StageTells c base resting s before tl
+    → StageTells c base resting s' before (Fronted t e ∷ tl)
+fronted_tells c base resting s s' t e before tl lanes_are sync_is standings_are fronts h =
+    tells_on c base resting resting s s' before before tl (Fronted t e ∷ tl) h
+    (record { openings_are = refl; kept_are = refl; items_are = refl })
+    (record { count = ap (λ (x : List Lane). length x) lanes_are; sync = sync_is; standings = standings_are })
+    fronts
+    (subst (λ (x : List Lane). LanesRest (opened c tl) base resting x before (Fronted t e ∷ tl)) (sym lanes_are)
+    (lanes_apart (opened c tl) base resting s.lanes.items before before [] tl (Fronted t e ∷ tl) (λ k. refl) refl (sym (append-nil before)) (record { out_is = refl; lost_is = refl; refused_is = refl }) h.lanes))
 
--- an item came to all lanes
-pub controlled_rests :
-    (s : Profile) (older : List Input) (i : Item) (old mid new : List Lane) (before told between after : List BinLine) (tl : Timeline)
-    → length old ≡ lanes_in s older → length mid ≡ length old → length new ≡ length mid
-    → LanesRest (lane_settings s) (from before (timeline s older)) (length old) old told tl
-    → ((x : Timeline) → LanesTell (lane_settings s) (from before (timeline s older)) old told x → LanesTell (lane_settings s) (from before (timeline s older)) mid between (all_acted i.time (length old) i.control x))
-    → ((x : Timeline) → LanesTell (lane_settings s) (from before (timeline s older)) mid between x → LanesRest (lane_settings s) (from before (timeline s older)) (length mid) new after (all_ticked (lane_settings s) i.time (length mid) x))
-    → LanesRest (lane_settings s) (from before (timeline s older)) (length new) new after (controlled (lane_settings s) (lanes_in s older) i tl)
-controlled_rests s older i old mid new before told between after tl long same_mid same_new h acts ticks =
-    let came : LanesRest (lane_settings s) (from before (timeline s older)) (length old) old told (Came i.time ∷ tl) = came_rests (lane_settings s) (from before (timeline s older)) (length old) old i.time told tl h in
-    subst (λ (n : ℕ). LanesRest (lane_settings s) (from before (timeline s older)) (length new) new after (controlled (lane_settings s) n i tl)) long
-    (subst (λ (n : ℕ). LanesRest (lane_settings s) (from before (timeline s older)) (length new) new after (all_ticked (lane_settings s) i.time n (all_acted i.time (length old) i.control (Came i.time ∷ tl)))) same_mid
-    (subst (λ (n : ℕ). LanesRest (lane_settings s) (from before (timeline s older)) n new after (all_ticked (lane_settings s) i.time (length mid) (all_acted i.time (length old) i.control (Came i.time ∷ tl)))) (sym same_new)
-    (ticks (all_acted i.time (length old) i.control (Came i.time ∷ tl)) (acts (Came i.time ∷ tl) came.tells))))
+-- ---- a packet
 
--- what a record brings, as the code has it and as the definition
-pub brought_in :
-    (s : Profile) (older : List Input) (r : Timed) (stage : Stage) (heard : Heard) (records t : ℕ) (ls news : List Lane) (before after : List BinLine) (tl : Timeline)
-    → stage.profile ≡ s
-    → stage.standing ≡ standing s older
-    → records ≡ length (records_in older) + 1
-    → t ≡ r.time
-    → sources_in ls ≡ sources s (records_in older)
-    → heard ≡ heard_of stage.profile r.captured
-    → LanesRest (lane_settings stage.profile) (from before (timeline s older)) (length news) news after (with_brought stage.profile stage.standing t (brought stage.profile t records (sources_in ls) heard) tl)
-    → LanesRest (lane_settings s) (from before (timeline s older)) (length news) news after (with_brought s (standing s older) r.time (brings s (records_in older) r) tl)
-brought_in s older r stage heard records t ls news before after tl profile stands count at known is h =
-    let base : Base = from before (timeline s older) in
-    let rest : Profile → Standing → ℕ → ℕ → List Source → Heard → Type 0 = λ p k m n xs x. LanesRest (lane_settings p) base (length news) news after (with_brought p k m (brought p m n xs x) tl) in
-    subst (λ (m : ℕ). rest s (standing s older) m (length (records_in older) + 1) (sources s (records_in older)) (heard_of s r.captured)) at
-    (subst (λ (xs : List Source). rest s (standing s older) t (length (records_in older) + 1) xs (heard_of s r.captured)) known
-    (subst (λ (n : ℕ). rest s (standing s older) t n (sources_in ls) (heard_of s r.captured)) count
-    (subst (λ (k : Standing). rest s k t records (sources_in ls) (heard_of s r.captured)) stands
-    (subst (λ (p : Profile). rest p stage.standing t records (sources_in ls) (heard_of p r.captured)) profile
-    (subst (λ (x : Heard). rest stage.profile stage.standing t records (sources_in ls) x) is h)))))
+-- A lane that a step touches isn't at rest.
+pub still : (resting : ℕ → Bool) (n count : ℕ) (x : Step) → touches n x ≡ true → AreApart resting count x → resting n ≡ false
+still resting n count x hit apart =
+    by_cases (resting n)
+    (λ r. absurd (differ (sym hit ∙ (apart n r).0)))
+    (λ r. r)
+  where
+    differ : true ≡ false → ⊥
+    differ e = cc
 
-pub sources_next : (s : Profile) (older : List Input) (r : Timed) (stage : Stage) (heard : Heard) (known news : List Source) → stage.profile ≡ s → known ≡ sources s (records_in older) → heard ≡ heard_of stage.profile r.captured → news ≡ with_heard known heard → news ≡ sources s (records_in (OfCapture r ∷ older))
-sources_next s older r stage heard known news profile same is e =
-    e ∙ ap (with_heard known) (is ∙ ap (λ (p : Profile). heard_of p r.captured) profile) ∙ ap (λ (xs : List Source). with_heard xs (heard_of s r.captured)) same
+-- A lane goes on, and isn't at rest.
+pub lane_tells :
+    (c : Contents) (base : Base) (resting : ℕ → Bool) (s s' : Stage) (n : ℕ) (was b : Lane) (before after : List BinLine) (tl new : Timeline)
+    → n < length s.lanes.items → was ≡ get_or s.lanes.items n was
+    → s'.lanes.items ≡ set s.lanes.items n b → s'.front ≡ s.front → s'.sync ≡ s.sync → s'.standings ≡ s.standings
+    → resting n ≡ false
+    → SameBeside tl new → front new ≡ front tl
+    → ((a : Around) → LaneTells (opened c tl) a n was before tl → LaneTells (opened c tl) a n b after new)
+    → StageTells c base resting s before tl
+    → StageTells c base resting s' after new
+lane_tells c base resting s s' n was b before after tl new lt is lanes_are front_is sync_is standings_are rests beside front_same goes h =
+    tells_on c base resting resting s s' before after tl new h beside
+    (record { count = ap (λ (x : List Lane). length x) lanes_are ∙ length-set s.lanes.items n b; sync = sync_is; standings = standings_are })
+    (subst (λ (x : FrontState). FrontStandsFor x c (front new)) (sym front_is) (subst (λ (x : List FrontEvent). FrontStandsFor s.front c x) (sym front_same) h.front))
+    (subst (λ (x : List Lane). LanesRest (opened c tl) base resting x after new) (sym lanes_are)
+    (lanes_go_on (opened c tl) base resting s.lanes.items n was b before after tl new lt is rests h.lanes (goes (around base s.lanes.items n tl))))
 
-pub settings_in : (s p : Profile) (base : Base) (ls : List Lane) (told : List BinLine) (tl : Timeline) → p ≡ s → LanesRest (lane_settings s) base (length ls) ls told tl → LanesRest (lane_settings p) base (length ls) ls told tl
-settings_in s p base ls told tl e h = subst (λ (q : Profile). LanesRest (lane_settings q) base (length ls) ls told tl) (sym e) h
+-- ---- a lane begins
+
+-- a flush at the begin leaves all but the lane
+flushed_beside : (b : Bool) (t l : ℕ) (tl : Timeline) → SameBeside tl (flushed_at_begin b t l tl)
+flushed_beside true t l tl = record { openings_are = refl; kept_are = refl; items_are = refl }
+flushed_beside false t l tl = record { openings_are = refl; kept_are = refl; items_are = refl }
+
+flushed_front : (b : Bool) (t l : ℕ) (tl : Timeline) → front (flushed_at_begin b t l tl) ≡ front tl
+flushed_front true t l tl = refl
+flushed_front false t l tl = refl
+
+all_below : (n m : ℕ) (calls : List Call) → n ≤ m → All (λ (call : Call). call.lane < n) calls → All (λ (call : Call). call.lane < m) calls
+all_below n m [] le h = All-nil _
+all_below n m (x ∷ xs) le h = All-cons (λ (call : Call). call.lane < m) x xs (let lt : x.lane < n = All-head (λ (call : Call). call.lane < n) x xs h in omega arith) (all_below n m xs le (All-tail (λ (call : Call). call.lane < n) x xs h))
+
+pub opens :
+    (c : Contents) (base : Base) (resting : ℕ → Bool) (s s' : Stage) (t : ℕ) (opening : Opening) (st d : Standing) (before after : List BinLine) (tl : Timeline)
+    → AddsLane opening s.lanes.items s'.lanes.items
+    → Open t opening st.latency st.flushing s.lanes.items s'.lanes.items before after
+    → s'.front ≡ s.front → s'.sync ≡ s.sync → s'.standings ≡ s.standings
+    → length s.lanes.items < 64 → opening.session < 8
+    → st ≡ slice_index_or s.standings opening.session d
+    → AreApart resting (length s.lanes.items) (step.Open opening)
+    → StageTells c base resting s before tl
+    → StageTells c base resting s' after (begun c t opening tl)
+opens c base resting s s' t opening st d before after tl adds goes front_is sync_is standings_are room below is apart h =
+    record {
+      count = long ∙ ap (λ (x : ℕ). x + 1) h.count ∙ sym counted;
+      few = omega (arith, counted, h.count, room);
+      lanes = lanes_fewer (opened c new) base (resting_but (length s.lanes.items) resting) resting s'.lanes.items after new fewer
+          (goes c base resting tl begins h.lanes);
+      front = subst (λ (x : FrontState). FrontStandsFor x c (front new)) (sym front_is) (subst (λ (x : List FrontEvent). FrontStandsFor s.front c x) (sym front_same) h.front);
+      sync = subst (λ (x : List Call). SyncStandsFor s'.sync x) (sym kept_same) (subst (λ x. SyncStandsFor x (kept tl)) (sym sync_is) h.sync);
+      lanes_kept = subst (λ (x : List Call). All (λ (call : Call). call.lane < lane_count new) x) (sym kept_same)
+          (all_below (lane_count tl) (lane_count new) (kept tl) (omega (arith, counted)) h.lanes_kept);
+      standings = λ session lt.
+          ap (λ x. slice_get x session) standings_are ∙ h.standings session lt
+          ∙ ap (λ (x : List Item). Some (standing_by_items c session x)) (sym items_same);
+    }
+  where
+    X : Timeline
+    X = At t (lane_count tl) (Latency (latency_of c opening.session tl)) ∷ Began t opening ∷ tl
+
+    new : Timeline
+    new = begun c t opening tl
+
+    beside : SameBeside X new
+    beside = flushed_beside (is_flushing_of opening.session tl) t (lane_count tl) X
+
+    front_same : front new ≡ front tl
+    front_same = flushed_front (is_flushing_of opening.session tl) t (lane_count tl) X
+
+    kept_same : kept new ≡ kept tl
+    kept_same = beside.kept_are
+
+    items_same : items new ≡ items tl
+    items_same = beside.items_are
+
+    counted : lane_count new ≡ lane_count tl + 1
+    counted = ap (λ (os : List Opening). length os) beside.openings_are ∙ length_push (openings tl) opening
+
+    long : length s'.lanes.items ≡ length s.lanes.items + 1
+    long = ap (λ (x : List Lane). length x) adds.added ∙ length_push s.lanes.items adds.lane
+
+    found : (xs : List Standing) (i : ℕ) (x : Standing) → slice_get xs i ≡ Some x → slice_index_or xs i d ≡ x
+    found [] i x e = cc
+    found (y ∷ xs) zero x e = cc
+    found (y ∷ xs) (suc i) x e = found xs i x e
+
+    standing_is : st ≡ standing c opening.session tl
+    standing_is = is ∙ found s.standings opening.session (standing c opening.session tl) (h.standings opening.session below)
+
+    begins : BeginsAs c opening st.latency st.flushing s.lanes.items tl
+    begins = record { count = h.count; latency = ap (λ (x : Standing). x.latency) standing_is; flushing_is = ap (λ (x : Standing). x.flushing) standing_is }
+
+    fewer : (k : ℕ) → k < length s'.lanes.items → resting k ≡ true → resting_but (length s.lanes.items) resting k ≡ true
+    fewer k lt r =
+        let within : k < length s.lanes.items = (apart k r).1 in
+        let other : (k == length s.lanes.items) ≡ false = grind (arith, common_steps) in
+        ap (λ (b : Bool). if b then false else resting k) other ∙ r
+
+-- A packet comes to a lane.
+pub pushes :
+    (s s' : Stage) (t n : ℕ) (a : Arrival) (was b : Lane) (before after : List BinLine)
+    → n < length s.lanes.items → was ≡ get_or s.lanes.items n was
+    → s'.lanes.items ≡ set s.lanes.items n b → s'.front ≡ s.front → s'.sync ≡ s.sync → s'.standings ≡ s.standings
+    → LaneGoesOn was b before after (pushed_at t a)
+    → Does t (step.Push n a) s s' before after
+pushes s s' t n a was b before after lt is lanes_are front_is sync_is standings_are goes c base resting tl apart h =
+    lane_tells c base resting s s' n was b before after tl (pushed_at t a (opened c tl) n tl) lt is lanes_are front_is sync_is standings_are
+    (still resting n (length s.lanes.items) (step.Push n a) (eq_same n) apart)
+    (record { openings_are = refl; kept_are = refl; items_are = refl }) refl
+    (λ around k. goes (opened c tl) around n tl k) h
+  where
+    eq_same : (m : ℕ) → (m == m) ≡ true
+    eq_same m = grind (arith, common_steps)
+
+-- ---- lines of the front
+
+-- Steps that only tell are done.
+pub tells_told :
+    (c : Contents) (base : Base) (resting : ℕ → Bool) (s : Stage) (t : ℕ) (xs : List Step) (ys before after : List BinLine) (tl : Timeline)
+    → AreTold xs ys → after ≡ before ++ ys
+    → StageTells c base resting s before tl
+    → StageTells c base resting s after (all_stepped c t xs tl)
+tells_told c base resting s t [] ys before after tl told e h =
+    subst (λ (zs : List BinLine). StageTells c base resting s zs tl) (sym (e ∙ ap (λ (zs : List BinLine). before ++ zs) told ∙ append-nil before)) h
+tells_told c base resting s t (step.Tell x ∷ xs) ys before after tl told e h =
+    tells_told c base resting s t xs told.1.0 (before ++ x ∷ []) after (Told t x ∷ tl) told.1.2
+    (e ∙ ap (λ (zs : List BinLine). before ++ zs) told.1.1 ∙ sym (append_assoc before (x ∷ []) told.1.0))
+    (told_tells c base resting s t x before (before ++ x ∷ []) tl told.0 refl h)
+tells_told c base resting s t (step.Open o ∷ xs) ys before after tl told e h = absurd told
+tells_told c base resting s t (step.Push l a ∷ xs) ys before after tl told e h = absurd told
+tells_told c base resting s t (step.Sync l r ∷ xs) ys before after tl told e h = absurd told
+
+-- Reports of all sessions are told.
+pub reports_told :
+    (c : Contents) (base : Base) (s s' : Stage) (t : ℕ) (e : FrontEvent) (xs : List Step) (before after : List BinLine) (tl : Timeline)
+    → s'.lanes.items ≡ s.lanes.items → s'.sync ≡ s.sync → s'.standings ≡ s.standings
+    → FrontStandsFor s'.front c (e ∷ front tl)
+    → xs ≡ steps c (front tl) e
+    → TellsAll xs before after
+    → StageTells c base all_resting s before tl
+    → StageTells c base all_resting s' after (fronted c t e tl)
+reports_told c base s s' t e xs before after tl lanes_are sync_is standings_are fronts is told h =
+    subst (λ (ys : List Step). StageTells c base all_resting s' after (all_stepped c t ys (Fronted t e ∷ tl))) is
+    (tells_told c base all_resting s' t xs told.0 before after (Fronted t e ∷ tl) told.2 told.1
+    (fronted_tells c base all_resting s s' t e before tl lanes_are sync_is standings_are fronts h))
+
+-- ---- before anything came
+
+-- no lanes
+pub none_tell :
+    (o : ℕ → Opening) (before : List BinLine) (ls : List Lane)
+    → ls ≡ []
+    → LanesRest o (record { before = before; log = [] }) all_resting ls before []
+none_tell o before ls e =
+    subst (λ (xs : List Lane). LanesRest o (record { before = before; log = [] }) all_resting xs before []) (sym e)
+    (record {
+      tells =
+          record {
+            each = λ k d lt. absurd (omega (arith, lt));
+            silent = λ k le. refl;
+            tallies = record { out = refl; lost = refl; refused = refl };
+            written = record { more = []; told_is = sym (append-nil before); all_is = refl };
+          };
+      wakes_are = λ k lt r. absurd (omega (arith, lt));
+    })
+
+pub begins :
+    (c : Contents) (s : Stage)
+    → s.lanes.items ≡ [] → FrontStandsFor s.front c [] → SyncStandsFor s.sync []
+    → ((session : ℕ) → session < 8 → slice_get s.standings session ≡ Some (standing c session []))
+    → Begins c s
+begins c s none fronts syncs standings before =
+    record {
+      count = ap (λ (x : List Lane). length x) none;
+      few = omega arith;
+      lanes = none_tell (opened c []) before s.lanes.items none;
+      front = fronts;
+      sync = syncs;
+      lanes_kept = All-nil _;
+      standings = standings;
+    }
+
+pub all_alike : (x y : Standing) (session : ℕ) → session < 8 → x ≡ y → slice_get (x ∷ x ∷ x ∷ x ∷ x ∷ x ∷ x ∷ x ∷ []) session ≡ Some y
+all_alike x y zero lt e = ap (λ (z : Standing). Some z) e
+all_alike x y (suc zero) lt e = ap (λ (z : Standing). Some z) e
+all_alike x y (suc (suc zero)) lt e = ap (λ (z : Standing). Some z) e
+all_alike x y (suc (suc (suc zero))) lt e = ap (λ (z : Standing). Some z) e
+all_alike x y (suc (suc (suc (suc zero)))) lt e = ap (λ (z : Standing). Some z) e
+all_alike x y (suc (suc (suc (suc (suc zero))))) lt e = ap (λ (z : Standing). Some z) e
+all_alike x y (suc (suc (suc (suc (suc (suc zero)))))) lt e = ap (λ (z : Standing). Some z) e
+all_alike x y (suc (suc (suc (suc (suc (suc (suc zero))))))) lt e = ap (λ (z : Standing). Some z) e
+all_alike x y (suc (suc (suc (suc (suc (suc (suc (suc n)))))))) lt e = absurd (omega (arith, lt))

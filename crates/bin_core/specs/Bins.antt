@@ -1,77 +1,78 @@
--- The lists of inputs that a bin stands for.
-use Rattle.std.specs.Prelude.{ℕ, ◌≡◌, ◌≤◌, ◌<◌, ◌++◌, List, [], ◌∷◌, length, reverse, get_or}
+-- The inputs that a bin stands for, and what its calls tell.
+use Rattle.std.specs.Prelude.{ℕ, ◌≡◌, ◌≤◌, ◌++◌, List, [], ◌∷◌, false, reverse}
 use Rattle.pcap_file.specs.declared.record.PcapRecord.{PcapRecord}
 use Rattle.pcap_file.specs.Reading.{record_view}
+use Rattle.script_lang.specs.Contents.{Contents}
+use Rattle.timeline.specs.Times.{Timed}
 use Rattle.timeline.specs.declared.line.BinLine.{BinLine}
-use Rattle.log_model.specs.declared.Profile.{Profile}
-use Rattle.log_model.specs.Times.{Timed}
-use Rattle.log_model.specs.Inputs.{Input, records_in}
-use Rattle.log_model.specs.Standings.{standing as standing_after}
-use Rattle.log_model.specs.Front.{sources}
-use Rattle.log_model.specs.Events.{Timeline, lane, latest, lines, done_line}
-use Rattle.log_model.specs.Waking.{wake}
-use Rattle.log_model.specs.Log.{lane_settings, lanes_in, timeline, whole_timeline, log_part, log}
+use Rattle.replay_model.specs.Inputs.{Input}
+use Rattle.replay_model.specs.Events.{Timeline}
+use Rattle.replay_model.specs.Lines.{lines}
+use Rattle.replay_model.specs.Log.{served, timeline, log_part, log}
 use Rattle.bin_core.specs.declared.bin.Bin.{Bin}
-use Rattle.bin_core.specs.declared.lane.Lane.{Lane}
-use Rattle.bin_core.specs.declared.stage.Stage.{Stage}
-use Rattle.bin_core.specs.Lanes.{Base, Tally, LaneStands}
-use Rattle.bin_core.specs.AllLanes.{LanesRest, sources_in, total, wakes_in}
+use Rattle.bin_core.specs.Agendas.{Holds}
+use Rattle.bin_core.specs.Words.{time_of, is_ahead}
 
--- the lanes are those of the sources, in their order; each stands for its history and keeps its wake; their counts are those of all lines
-pub record LanesStand (s : Profile) (ls : List Lane) (xs : List Input) (tl : Timeline) : Type 0 where
-  pub sources_are : sources_in ls ≡ sources s (records_in xs)
-  pub each : (k : ℕ) (d : Lane) → k < length ls → LaneStands (lane_settings s) k (get_or ls k d) tl
-  pub wakes_are : (k : ℕ) → k < length ls → wakes_in ls k ≡ wake (lane_settings s) tl k
-  pub silent : (k : ℕ) → length ls ≤ k → lane k tl ≡ []
-  pub tallies : Tally (total ls) (lines tl)
+-- A bin after these inputs, the newest of which is the first, and after these lines of what was
+-- served since. What is due later is the same as it would be behind the inputs alone.
+pub record StandsFor (c : Contents) (bin : Bin) (xs : List Input) (told : List BinLine) : Type 0 where
+  pub now : Timeline
+  pub holds : (before : List BinLine)
+      → Holds c (record { before = before; log = lines now }) bin.agenda before now
+  pub told_is : lines now ≡ lines (timeline c xs) ++ told
+  pub same : (t : ℕ) → time_of bin ≤ t → served c t now ≡ served c t (timeline c xs)
+  pub level : is_ahead bin ≡ false → now ≡ timeline c xs
 
--- a bin's fields stand for these inputs, the newest of which is the first
-pub record StandsFor (s : Profile) (stage : Stage) (xs : List Input) : Type 0 where
-  pub profile : stage.profile ≡ s
-  pub standing : stage.standing ≡ standing_after s xs
-  pub records : stage.records ≡ length (records_in xs)
-  pub time : stage.time ≡ latest (timeline s xs)
-  pub lanes : LanesStand s stage.lanes.items xs (timeline s xs)
-
--- a bin of this profile stands for the inputs that it has taken, the first of which is the first
-unfoldable pub BinStands : Profile → Bin → List Input → Type 0
-BinStands s bin seen = StandsFor s bin.stage (reverse seen)
+-- A bin of this script took these inputs, the first of which is the first, and served something of
+-- what is due since. Of that it told these lines.
+unfoldable pub BinStands : Contents → Bin → List Input → List BinLine → Type 0
+BinStands c bin seen told = StandsFor c bin (reverse seen) told
 
 -- a record of a capture with this link type, at its time
 abbrev pub timed : ℕ → ℕ → PcapRecord → Timed
 timed time link r = record { time = time; captured = record_view link r }
 
--- an input was taken: these lines were added, which the log has next, and the bin stands for one input more
-pub record TakesOn (s : Profile) (seen : List Input) (x : Input) (before after : List BinLine) (bin : Bin) : Type 0 where
-  pub told : List BinLine
-  pub added : after ≡ before ++ told
-  pub line : log_part s (seen ++ x ∷ []) ≡ log_part s seen ++ told
-  pub stands : BinStands s bin (seen ++ x ∷ [])
+-- something was served: these lines were added
+pub record ServesMore (c : Contents) (seen : List Input) (told before after : List BinLine) (bin : Bin)
+    : Type 0 where
+  pub more : List BinLine
+  pub added : after ≡ before ++ more
+  pub stands : BinStands c bin seen (told ++ more)
 
--- the end came: these lines were added, which complete the log
-pub record Completes (s : Profile) (seen : List Input) (before after : List BinLine) : Type 0 where
-  pub told : List BinLine
-  pub added : after ≡ before ++ told
-  pub line : log s seen ≡ log_part s seen ++ told
+-- an input was taken: of what the log has next, the lines that weren't told yet were added
+pub record TakesOn (c : Contents) (seen : List Input) (told : List BinLine) (x : Input)
+    (before after : List BinLine) (bin : Bin) : Type 0 where
+  pub rest : List BinLine
+  pub added : after ≡ before ++ rest
+  pub line : log_part c (seen ++ x ∷ []) ≡ log_part c seen ++ told ++ rest
+  pub stands : BinStands c bin (seen ++ x ∷ []) []
 
--- ---- the same of a bin's fields
+-- the end came: the lines that complete the log were added
+pub record Completes (c : Contents) (seen : List Input) (before after : List BinLine) : Type 0 where
+  pub rest : List BinLine
+  pub added : after ≡ before ++ rest
+  pub line : log c seen ≡ log_part c seen ++ rest
 
--- lanes at rest come to rest again, where the timeline goes on by this step
-abbrev pub ComesOn : Stage → Stage → List BinLine → List BinLine → (Timeline → Timeline) → Type 0
-ComesOn old new before after step =
-    (base : Base) (tl : Timeline)
-    → LanesRest (lane_settings old.profile) base (length old.lanes.items) old.lanes.items before tl
-    → LanesRest (lane_settings old.profile) base (length new.lanes.items) new.lanes.items after (step tl)
+-- ---- what calls do to a bin, whatever it stands for
 
--- an input was taken after these ones, the newest of which is the first
-pub record StageTakes (s : Profile) (older : List Input) (x : Input) (before after : List BinLine) (stage : Stage) : Type 0 where
-  pub told : List BinLine
-  pub added : after ≡ before ++ told
-  pub line : lines (timeline s (x ∷ older)) ≡ lines (timeline s older) ++ told
-  pub stands : StandsFor s stage (x ∷ older)
+abbrev pub Serves : Bin → Bin → List BinLine → List BinLine → Type 0
+Serves old new before after =
+    (c : Contents) (seen : List Input) (told : List BinLine)
+    → BinStands c old seen told → ServesMore c seen told before after new
 
--- the end came after these inputs
-pub record StageEnds (s : Profile) (xs : List Input) (before after : List BinLine) : Type 0 where
-  pub told : List BinLine
-  pub added : after ≡ before ++ told ++ done_line (length (records_in xs)) (lanes_in s xs) (lines (whole_timeline s xs)) ∷ []
-  pub line : lines (whole_timeline s xs) ≡ lines (timeline s xs) ++ told
+-- All that is due up to a time was told.
+abbrev pub HasServed : ℕ → Bin → Type 0
+HasServed t bin =
+    (c : Contents) (seen : List Input) (told : List BinLine)
+    → BinStands c bin seen told
+    → lines (served c t (timeline c (reverse seen))) ≡ log_part c seen ++ told
+
+abbrev pub Takes : Input → Bin → Bin → List BinLine → List BinLine → Type 0
+Takes x old new before after =
+    (c : Contents) (seen : List Input) (told : List BinLine)
+    → BinStands c old seen told → TakesOn c seen told x before after new
+
+abbrev pub Ends : Bin → List BinLine → List BinLine → Type 0
+Ends old before after =
+    (c : Contents) (seen : List Input) (told : List BinLine)
+    → BinStands c old seen told → Completes c seen before after

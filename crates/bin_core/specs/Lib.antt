@@ -1,6 +1,4 @@
+pub mod Stages
+pub mod Agendas
 pub mod Words
-pub mod Totals
-pub mod Lanes
-pub mod AllLanes
-pub mod Fit
 pub mod Bins

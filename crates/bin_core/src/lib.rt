@@ -1,14 +1,19 @@
-//! The bin: what becomes of a capture's records and a script's items, on one thread and without a clock of
-//! its own. Times come in as arguments, and lines go out as values.
+//! The bin: what becomes of a capture's records and a script's items, on one thread and without a
+//! clock of its own. Times come in as arguments, and lines go out as values.
 #![tactic(auto)]
 
+mod agenda;
 mod bin;
-mod counts;
-mod front;
-mod lane;
-mod lanes;
-mod replies;
+mod offsets;
+mod ranges;
+mod requests;
 mod stage;
+mod standings;
+mod touched;
 
-pub use bin::{Bin, MAX_RECORDS};
+pub use bin::Bin;
+pub use stage::MAX_RECORDS;
 pub use timeline::{BinLine, Lines, Word};
+
+#[cfg(test)]
+mod tests;

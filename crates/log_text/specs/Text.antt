@@ -14,7 +14,6 @@ abbrev pub ssrc_text : ℕ → List ℕ
 ssrc_text n = padded_integral (format_spec 32 0 4 8 (2 ^ 64 - 1)) false [] (digits 16 false n)
 
 abbrev pub word_text : Word → List ℕ
-word_text word.Unbuilt = codes "unbuilt"
 word_text word.Cut = codes "cut"
 word_text word.NotIp = codes "not-ip"
 word_text word.Fragment = codes "fragment"

@@ -230,7 +230,6 @@ impl fmt::Display for Spelled {
 
     fn fmt<W: fmt::Write>(&self, f: &mut fmt::Formatter<W>) -> fmt::Result {
         match self.0 {
-            Word::Unbuilt => write!(f, "unbuilt"),
             Word::Cut => write!(f, "cut"),
             Word::NotIp => write!(f, "not-ip"),
             Word::Fragment => write!(f, "fragment"),

@@ -209,7 +209,7 @@ served_extend c limit tl = serve_extend _ c (opened c tl) true (lane_count tl) l
 
 -- ---- all
 
-input_extend : (c : Contents) (x : Input) (tl : Timeline) → Extends tl (with_input c x tl)
+pub input_extend : (c : Contents) (x : Input) (tl : Timeline) → Extends tl (with_input c x tl)
 input_extend c (OfCapture r) tl =
     ext_then tl (served c r.time tl) _ (served_extend c r.time tl) (ext r.time (served c r.time tl) _ (taken_extend c r.time (Came r.time r.captured) (served c r.time tl)))
 input_extend c (OfScript i) tl =

@@ -7,8 +7,8 @@ use Rattle.timeline.specs.declared.line.BinLine.{BinLine}
 use Rattle.replay_model.specs.Inputs.{Input}
 use Rattle.replay_model.specs.Events.{Event, Timeline}
 use Rattle.replay_model.specs.Lines.{lines, event_lines}
-use Rattle.replay_model.specs.Log.{timeline, whole_timeline, log_part, log, done_of, Begins}
-use Rattle.replay_model.proofs.Extending.{Extends, ext_then, timeline_extend, closed_extend}
+use Rattle.replay_model.specs.Log.{with_input, timeline, whole_timeline, log_part, log, done_of, Begins}
+use Rattle.replay_model.proofs.Extending.{Extends, ext_then, input_extend, timeline_extend, closed_extend}
 
 lines_then : (more old : Timeline) → lines (more ++ old) ≡ lines old ++ lines more
 lines_then [] old = sym (append-nil (lines old))
@@ -23,6 +23,9 @@ part_extends c xs more =
 
 pub past : (c : Contents) (newer older : List Input) → (more : Timeline) × (timeline c (newer ++ older) ≡ more ++ timeline c older)
 past c newer older = let h : Extends (timeline c older) (timeline c (newer ++ older)) = timeline_extend c newer older in (h.more, h.is)
+
+pub input : (c : Contents) (x : Input) (tl : Timeline) → Begins (lines tl) (lines (with_input c x tl))
+input c x tl = begins tl (with_input c x tl) (input_extend c x tl)
 
 pub part : (c : Contents) (xs more : List Input) → Begins (log_part c xs) (log_part c (xs ++ more))
 part c xs more = begins (timeline c (reverse xs)) (timeline c (reverse (xs ++ more))) (part_extends c xs more)

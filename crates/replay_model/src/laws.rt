@@ -14,7 +14,9 @@ ghost use Rattle.replay_model.specs.Events.{Timeline, front, items, lane};
 ghost use Rattle.replay_model.specs.Turning.{turned, all_turns, settled};
 ghost use Rattle.replay_model.specs.Serving.{first_due, serve_one, serve};
 ghost use Rattle.replay_model.specs.declared.TheConstants.{END_OF_TIME as LAST};
+ghost use Rattle.replay_model.specs.Lines.{lines};
 ghost use Rattle.replay_model.specs.Log.{served, timeline, whole_timeline, log_part, log, Begins};
+ghost use Rattle.replay_model.specs.Log.{with_input};
 ghost use Rattle.jitter_model.specs.Runs.{Run};
 ghost use Rattle.replay_model.specs.Lanes.{opened};
 ghost use Rattle.replay_model.specs.Fitting.{IsSound, IsReplay};
@@ -22,11 +24,14 @@ ghost use Rattle.replay_model.specs.Order.{IsInOrder, last_time, AreInOrder, cam
 
 use jitter_model::laws::{turns_run_out, wakes_are_later};
 
-/// What happened stays, whatever comes then. Without inputs nothing is told. What is told of some
-/// inputs begins what is told of them and more, and the whole log of these.
+/// What happened stays, whatever comes then. An input adds to what is told, whatever happened before
+/// it. Without inputs nothing is told. What is told of some inputs begins what is told of them and
+/// more, and the whole log of these.
 pub fn goes_on()
     ensures past { (c : Contents) (newer older : List Input)
         → (more : Timeline) × (timeline c (newer ++ older) ≡ more ++ timeline c older) }
+    ensures input { (c : Contents) (x : Input) (tl : Timeline)
+        → Begins (lines tl) (lines (with_input c x tl)) }
     ensures none { (c : Contents) → log_part c [] ≡ [] }
     ensures part { (c : Contents) (xs more : List Input)
         → Begins (log_part c xs) (log_part c (xs ++ more)) }

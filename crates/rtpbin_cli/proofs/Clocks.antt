@@ -3,7 +3,7 @@ use Rattle.std.proofs.Common.{◌≡◌, ℕ, ◌-◌, List, [], ◌∷◌, ◌+
 use Rattle.std.specs.Prelude.{max, unwrap_or}
 use Rattle.pcap_file.specs.Capture.{Record}
 use Rattle.std.proofs.lemmas.List.{append_assoc, append-nil}
-use Rattle.log_model.specs.Times.{Timed, at_times, at_times_after, timed_after, greatest_since, time_after}
+use Rattle.timeline.specs.Times.{Timed, at_times, at_times_after, timed_after, greatest_since, time_after}
 use Rattle.rtpbin_cli.specs.declared.clock.RecordClock.{RecordClock}
 use Rattle.rtpbin_cli.specs.Clock.{HasPassed}
 

@@ -7,7 +7,7 @@ use Rattle.rtp_io.specs.Laws.{adds_then, adds_same}
 use Rattle.pcap_file.specs.Capture.{Record}
 use Rattle.timeline.specs.declared.dumped.DumpLine.{DumpLine}
 use Rattle.timeline.specs.declared.dumped.DumpLine.TheVariants as told
-use Rattle.log_model.specs.Times.{Timed, at_times, at_times_after, timed_after}
+use Rattle.timeline.specs.Times.{Timed, at_times, at_times_after, timed_after}
 use Rattle.log_text.specs.Dumped.{dump_text}
 use Rattle.rtpbin_cli.specs.declared.clock.RecordClock.{RecordClock}
 use Rattle.rtpbin_cli.specs.declared.stop.Stop.{Stop}

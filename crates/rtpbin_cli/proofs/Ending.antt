@@ -29,7 +29,7 @@ report_is P result wish text w w' e e' (inr h) a b c d = told_is P result status
 pub out_ends : (why : Stop) (result : Status) (want : Wanted) (form : Option Form) (after : Disk) (x x' w w' : Option (List ℕ)) (e e' : ℕ) → Runs (Err why) want form after x x' → Reports result why w w' e e' → HasOut result want form after x x'
 out_ends stop.Write result want form after x x' w w' e e' h r = subst (λ (s : Status). HasOut s want form after x x') (sym r.0) (inl h.0)
 out_ends stop.Usage result want form after x x' w w' e e' h r = let f : IsFront want form after x x' = inl (all_front (out_of want) x x' h.1) in report_is (λ s. HasOut s want form after x x') result status.Usage (text_of stop.Usage) w w' e e' r (λ a b. h.1) (λ a b. f) (λ a b. f) (λ a b. f)
-out_ends (stop.Script fault) result want form after x x' w w' e e' h r = let f : IsFront want form after x x' = inl (all_front (out_of want) x x' h.1) in report_is (λ s. HasOut s want form after x x') result status.Script (text_of (stop.Script fault)) w w' e e' r (λ a b. h.1) (λ a b. f) (λ a b. f) (λ a b. f)
+out_ends (stop.Script line why) result want form after x x' w w' e e' h r = let f : IsFront want form after x x' = inl (all_front (out_of want) x x' h.1) in report_is (λ s. HasOut s want form after x x') result status.Script (text_of (stop.Script line why)) w w' e e' r (λ a b. h.1) (λ a b. f) (λ a b. f) (λ a b. f)
 out_ends (stop.Capture fault) result want form after x x' w w' e e' h r = let f : IsFront want form after x x' = inl (all_front (out_of want) x x' h.1) in report_is (λ s. HasOut s want form after x x') result status.Capture (text_of (stop.Capture fault)) w w' e e' r (λ a b. h.1) (λ a b. f) (λ a b. f) (λ a b. f)
 out_ends stop.Read result want form after x x' w w' e e' h r = let f : IsFront want form after x x' = inr (all_front (read_out form after) x x' h) in report_is (λ s. HasOut s want form after x x') result status.Read (text_of stop.Read) w w' e e' r (λ a b. h) (λ a b. f) (λ a b. f) (λ a b. f)
 out_ends stop.Memory result want form after x x' w w' e e' h r = let f : IsFront want form after x x' = inl h in report_is (λ s. HasOut s want form after x x') result status.Memory memory_text w w' e e' r (λ a b. f) (λ a b. f) (λ a b. f) (λ a b. f)
@@ -38,7 +38,7 @@ out_ends stop.Memory result want form after x x' w w' e e' h r = let f : IsFront
 pub few_ends : (why : Stop) (want : Wanted) (form : Option Form) (after : Disk) (f f' o o' : ℕ) (x x' : Option (List ℕ)) → Runs (Err why) want form after x x' → HasStopCause {A = Unit {0}} (Err why) f f' o o' → o < o' → HasTaken want form after x x'
 few_ends stop.Write want form after f f' o o' x x' h cause lt = h.1
 few_ends stop.Usage want form after f f' o o' x x' h cause lt = absurd (omega (arith, lt, cause.1))
-few_ends (stop.Script fault) want form after f f' o o' x x' h cause lt = absurd (omega (arith, lt, cause.1))
+few_ends (stop.Script line why) want form after f f' o o' x x' h cause lt = absurd (omega (arith, lt, cause.1))
 few_ends stop.Read want form after f f' o o' x x' h cause lt = absurd (omega (arith, lt, cause.1))
 few_ends (stop.Capture fault) want form after f f' o o' x x' h cause lt = absurd (omega (arith, lt, cause.1))
 few_ends stop.Memory want form after f f' o o' x x' h cause lt = absurd (omega (arith, lt, cause.1))
@@ -59,9 +59,9 @@ err_ends stop.Usage result want form after f f' o o' e e' x x' w w' h cause r =
     report_is (λ s. HasErr s want f f' o o' w w') result status.Usage (text_of stop.Usage) w w' e e' r
     (λ a b. called_text want stop.Usage w w' h.0 a) (λ a b. cut_err (MustStop want f f') stop.Usage o o' w w' cause.1 (h.0, cause.0) a)
     (λ a b. a) (λ a b. cut_err (MustStop want f f') stop.Memory o o' w w' cause.1 tt a)
-err_ends (stop.Script fault) result want form after f f' o o' e e' x x' w w' h cause r =
-    report_is (λ s. HasErr s want f f' o o' w w') result status.Script (text_of (stop.Script fault)) w w' e e' r
-    (λ a b. called_text want (stop.Script fault) w w' h.0 a) (λ a b. cut_err (MustStop want f f') (stop.Script fault) o o' w w' cause.1 (h.0, cause.0) a)
+err_ends (stop.Script line why) result want form after f f' o o' e e' x x' w w' h cause r =
+    report_is (λ s. HasErr s want f f' o o' w w') result status.Script (text_of (stop.Script line why)) w w' e e' r
+    (λ a b. called_text want (stop.Script line why) w w' h.0 a) (λ a b. cut_err (MustStop want f f') (stop.Script line why) o o' w w' cause.1 (h.0, cause.0) a)
     (λ a b. a) (λ a b. cut_err (MustStop want f f') stop.Memory o o' w w' cause.1 tt a)
 err_ends (stop.Capture fault) result want form after f f' o o' e e' x x' w w' h cause r =
     report_is (λ s. HasErr s want f f' o o' w w') result status.Capture (text_of (stop.Capture fault)) w w' e e' r
@@ -84,9 +84,9 @@ text_ends stop.Usage result form f f' o o' e e' w w' usage cause r =
     report_is (λ s. HasSomeErr s form f f' o o' w w') result status.Usage (text_of stop.Usage) w w' e e' r
     (λ a b. a) (λ a b. cut_err (MayStop form f f') stop.Usage o o' w w' cause.1 (usage, cause.0) a)
     (λ a b. a) (λ a b. cut_err (MayStop form f f') stop.Memory o o' w w' cause.1 tt a)
-text_ends (stop.Script fault) result form f f' o o' e e' w w' usage cause r =
-    report_is (λ s. HasSomeErr s form f f' o o' w w') result status.Script (text_of (stop.Script fault)) w w' e e' r
-    (λ a b. (fault, a)) (λ a b. cut_err (MayStop form f f') (stop.Script fault) o o' w w' cause.1 (usage, cause.0) a)
+text_ends (stop.Script line why) result form f f' o o' e e' w w' usage cause r =
+    report_is (λ s. HasSomeErr s form f f' o o' w w') result status.Script (text_of (stop.Script line why)) w w' e e' r
+    (λ a b. (line, why, a)) (λ a b. cut_err (MayStop form f f') (stop.Script line why) o o' w w' cause.1 (usage, cause.0) a)
     (λ a b. a) (λ a b. cut_err (MayStop form f f') stop.Memory o o' w w' cause.1 tt a)
 text_ends (stop.Capture fault) result form f f' o o' e e' w w' usage cause r =
     report_is (λ s. HasSomeErr s form f f' o o' w w') result status.Capture (text_of (stop.Capture fault)) w w' e e' r

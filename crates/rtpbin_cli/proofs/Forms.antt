@@ -12,7 +12,7 @@ use Rattle.rtpbin_cli.specs.Steps.{Covers, HasStopCause, IsOfForm, IsUsage, Repo
 pub no_usage : (r : Result (Unit {0}) Stop) (form : Option Form) (f : Form) → Some f ≡ form → IsOfForm r → IsUsage r form
 no_usage (Ok x) form f e other = λ none. cc
 no_usage (Err stop.Usage) form f e other = absurd other
-no_usage (Err (stop.Script fault)) form f e other = λ none. cc
+no_usage (Err (stop.Script line why)) form f e other = λ none. cc
 no_usage (Err stop.Read) form f e other = λ none. cc
 no_usage (Err (stop.Capture fault)) form f e other = λ none. cc
 no_usage (Err stop.Write) form f e other = λ none. cc
@@ -22,7 +22,7 @@ no_usage (Err stop.Memory) form f e other = λ none. cc
 pub covers_no_usage : (output : Output) (r : Result (Unit {0}) Stop) (form : Option Form) (f : Form) (before after : Disk) (old new : Option (List ℕ)) → Some f ≡ form → Covers output r before after old new → IsUsage r form
 covers_no_usage output (Ok x) form f before after old new e h = λ none. cc
 covers_no_usage output (Err stop.Usage) form f before after old new e h = absurd h
-covers_no_usage output (Err (stop.Script fault)) form f before after old new e h = λ none. cc
+covers_no_usage output (Err (stop.Script line why)) form f before after old new e h = λ none. cc
 covers_no_usage output (Err stop.Read) form f before after old new e h = λ none. cc
 covers_no_usage output (Err (stop.Capture fault)) form f before after old new e h = λ none. cc
 covers_no_usage output (Err stop.Write) form f before after old new e h = λ none. cc
@@ -31,7 +31,7 @@ covers_no_usage output (Err stop.Memory) form f before after old new e h = λ no
 pub covers_of_form : (output : Output) (r : Result (Unit {0}) Stop) (before after : Disk) (old new : Option (List ℕ)) → Covers output r before after old new → IsOfForm r
 covers_of_form output (Ok x) before after old new h = tt
 covers_of_form output (Err stop.Usage) before after old new h = absurd h
-covers_of_form output (Err (stop.Script fault)) before after old new h = tt
+covers_of_form output (Err (stop.Script line why)) before after old new h = tt
 covers_of_form output (Err stop.Read) before after old new h = tt
 covers_of_form output (Err (stop.Capture fault)) before after old new h = tt
 covers_of_form output (Err stop.Write) before after old new h = tt
@@ -40,7 +40,7 @@ covers_of_form output (Err stop.Memory) before after old new h = tt
 -- where a run stopped and its status isn't Write, no write of the output failed
 pub taken : (s : Stop) (r : Status) (old new : Option (List ℕ)) (e e' f f' o o' : ℕ) → HasStopCause {A = Unit {0}} (Err s) f f' o o' → Reports r s old new e e' → r ≢ status.Write → o' ≡ o
 taken stop.Usage r old new e e' f f' o o' cause told other = cause.1
-taken (stop.Script fault) r old new e e' f f' o o' cause told other = cause.1
+taken (stop.Script line why) r old new e e' f f' o o' cause told other = cause.1
 taken stop.Read r old new e e' f f' o o' cause told other = cause.1
 taken (stop.Capture fault) r old new e e' f f' o o' cause told other = cause.1
 taken stop.Write r old new e e' f f' o o' cause told other = absurd (other told.0)

@@ -1,54 +1,61 @@
 -- Items in order of time: those of a script, and parts of them up to a time.
 use Rattle.std.proofs.Common.{◌≡◌, ℕ, ◌+◌, ◌-◌, ◌<◌, ◌≤◌, Bool, true, false, cond, List, [], ◌∷◌, ◌++◌, length, take, drop, get_or, add-one, Option, Some, None, inl, inr, refl, sym, ap, subst, ◌∙◌, arith, zero-le}
-use Rattle.std.specs.Prelude.{nat_le, nat_lt, not, ◌&&◌, map, unwrap_or, if◌then◌else◌}
+use Rattle.std.specs.Prelude.{◌==◌, ◌*◌, ◌/◌, ◌%◌, nat_le, nat_lt, not, ◌&&◌, map, unwrap_or, if◌then◌else◌}
 use Rattle.std.specs.List.{list_all, position_or_len}
-use Rattle.std.proofs.lemmas.Bool.{and_parts, or_parts, not-true, ltb-false, leb-true, leb-false, le-leb, lt-leb, lt-ltb, le-ltb, cases_lt, cond-true, cond-false}
+use Rattle.std.proofs.lemmas.Bool.{and_parts, eqb-true, or_parts, not-true, ltb-false, leb-true, leb-false, le-leb, lt-leb, lt-ltb, le-ltb, cases_lt, cond-true, cond-false}
 use Rattle.std.proofs.lemmas.List.Recursion.{is_position_or_len}
 use Rattle.std.proofs.Math.Seq.{take-suc, drop-cons}
 use Rattle.std.proofs.lemmas.List.{append_assoc, drop-drop, map-append, take-append-drop, take_all, length-drop}
-use Rattle.log_model.specs.declared.Item.{Item}
-use Rattle.log_model.specs.Captured.{IsControl, IsItem, AreItems}
-use Rattle.log_model.specs.Times.{Timed}
-use Rattle.log_model.specs.Inputs.{Input, OfCapture, OfScript, items_to, items_behind, inputs, items_left}
+use Rattle.timeline.specs.Times.{Timed}
+use Rattle.replay_model.specs.Fitting.{IsAction, IsItem}
+use Rattle.replay_model.specs.Inputs.{Input, OfCapture, OfScript, items_to, items_behind, inputs, items_left}
 use Rattle.script_lang.specs.declared.script.Action.{Action}
 use Rattle.script_lang.specs.declared.script.Action.TheVariants as action
-use Rattle.script_lang.specs.declared.script.Item.{Item as ScriptItem}
+use Rattle.script_lang.specs.declared.script.Item.{Item}
 use Rattle.script_lang.specs.declared.script.SessionLine.{SessionLine}
 use Rattle.script_lang.specs.Contents.{Contents, IsScript, each_behind, is_next_item, action_alternates}
 use Rattle.script_lang.specs.Entries.{item_fits, action_fits}
 use Rattle.script_lang.specs.Settings.{is_within, is_time_within}
 use Rattle.script_lang.specs.Tests.{has_later, action_lacks_session}
-use Rattle.rtpbin_cli.specs.Script.{control_of, item_of}
-use Rattle.rtpbin_cli.specs.Plays.{time_behind}
-use Rattle.rtpbin_cli.proofs.Lanes.{time_within}
+use Rattle.rtpbin_cli.specs.Plays.{AreItems, time_behind}
 
 -- ---- a script's items
 
-is_control : (a : Action) → action_fits a ≡ true → IsControl (control_of a)
-is_control action.Clock fits = tt
-is_control (action.FlushStart session) fits = tt
-is_control (action.FlushStop session) fits = tt
-is_control (action.Latency session ns) fits = (time_within 0 600000 ns (and_parts (is_within 0 7 session) (is_time_within 0 600000 ns) fits).1).1
+-- a time in nanoseconds, by its range in milliseconds
+time_within : (least most ns : ℕ) → is_time_within least most ns ≡ true → (1000000 * least ≤ ns) × (ns ≤ 1000000 * most)
+time_within least most ns h =
+    let both = and_parts (ns % 1000000 == 0) (is_within least most (ns / 1000000)) h in
+    let range = and_parts (nat_le least (ns / 1000000)) (nat_le (ns / 1000000) most) both.1 in
+    let rest : ns % 1000000 ≡ 0 = eqb-true (ns % 1000000) 0 both.0 in
+    let low : least ≤ ns / 1000000 = leb-true least (ns / 1000000) range.0 in
+    let high : ns / 1000000 ≤ most = leb-true (ns / 1000000) most range.1 in
+    (omega (arith, rest, low), omega (arith, rest, high))
 
-is_item : (i : ScriptItem) → item_fits i ≡ true → IsItem (item_of i)
+is_action : (a : Action) → action_fits a ≡ true → IsAction a
+is_action action.Clock fits = tt
+is_action (action.FlushStart session) fits = tt
+is_action (action.FlushStop session) fits = tt
+is_action (action.Latency session ns) fits = (time_within 0 600000 ns (and_parts (is_within 0 7 session) (is_time_within 0 600000 ns) fits).1).1
+
+is_item : (i : Item) → item_fits i ≡ true → IsItem i
 is_item i fits =
     let both = and_parts (is_time_within 0 4294967295 i.time) (action_fits i.action) fits in
     let most : i.time ≤ 4294967295000000 = (time_within 0 4294967295 i.time both.0).1 in
-    record { early = omega (arith, most); control = is_control i.action both.1 }
+    record { early = omega (arith, most); action = is_action i.action both.1 }
 
 -- the last of earlier items is not later
-last_first : (before : List ScriptItem) (last : ScriptItem) (t : ℕ) → has_later (before ++ last ∷ []) t ≡ false → last.time ≤ t
+last_first : (before : List Item) (last : Item) (t : ℕ) → has_later (before ++ last ∷ []) t ≡ false → last.time ≤ t
 last_first [] last t none = ltb-false t last.time (or_parts (nat_lt t last.time) false none).0
 last_first (x ∷ before) last t none = last_first before last t (or_parts (nat_lt t x.time) (has_later (before ++ last ∷ []) t) none).1
 
-next_on : (sessions : List SessionLine) (before : List ScriptItem) (last i : ScriptItem) → is_next_item sessions (before ++ last ∷ []) i ≡ true → last.time ≤ i.time
+next_on : (sessions : List SessionLine) (before : List Item) (last i : Item) → is_next_item sessions (before ++ last ∷ []) i ≡ true → last.time ≤ i.time
 next_on sessions before last i is =
-    let all : List ScriptItem = before ++ last ∷ [] in
+    let all : List Item = before ++ last ∷ [] in
     let both = and_parts (not (action_lacks_session sessions i.action) && not (has_later all i.time)) (action_alternates all i.action) is in
     last_first before last i.time (not-true (has_later all i.time) (and_parts (not (action_lacks_session sessions i.action)) (not (has_later all i.time)) both.0).1)
 
-items_on : (sessions : List SessionLine) (before : List ScriptItem) (last : ScriptItem) (items : List ScriptItem) → list_all item_fits items ≡ true → each_behind (is_next_item sessions) (before ++ last ∷ []) items ≡ true
-    → AreItems last.time (map item_of items)
+items_on : (sessions : List SessionLine) (before : List Item) (last : Item) (items : List Item) → list_all item_fits items ≡ true → each_behind (is_next_item sessions) (before ++ last ∷ []) items ≡ true
+    → AreItems last.time items
 items_on sessions before last [] fits next = tt
 items_on sessions before last (i ∷ items) fits next =
     let here = and_parts (item_fits i) (list_all item_fits items) fits in
@@ -56,10 +63,10 @@ items_on sessions before last (i ∷ items) fits next =
     (next_on sessions before last i behind.0, is_item i here.0, items_on sessions (before ++ last ∷ []) i items here.1 behind.1)
 
 -- from 0 on
-pub items_of_script : (c : Contents) → IsScript c → AreItems 0 (map item_of c.items)
+pub items_of_script : (c : Contents) → IsScript c → AreItems 0 c.items
 items_of_script c script = at c.items script.items_fit script.next_items
   where
-    at : (items : List ScriptItem) → list_all item_fits items ≡ true → each_behind (is_next_item c.sessions) [] items ≡ true → AreItems 0 (map item_of items)
+    at : (items : List Item) → list_all item_fits items ≡ true → each_behind (is_next_item c.sessions) [] items ≡ true → AreItems 0 items
     at [] fits next = tt
     at (i ∷ items) fits next =
         let here = and_parts (item_fits i) (list_all item_fits items) fits in
@@ -120,21 +127,6 @@ are_behind from t (i ∷ items) are = by_order (AreItems t) i.time t (items_behi
 pub time_to : (from t : ℕ) (items : List Item) → from ≤ t → time_behind from (items_to t items) ≤ t
 time_to from t [] low = low
 time_to from t (i ∷ items) low = by_order (λ (l : List Item). time_behind from l ≤ t) i.time t (i ∷ items_to t items) [] (λ up. time_to i.time t items up) (λ _. low)
-
--- ---- items among records
-
-pub inputs_more : (items : List Item) (rs more : List Timed) → inputs items (rs ++ more) ≡ inputs items rs ++ inputs (items_left items rs) more
-inputs_more items [] more = refl
-inputs_more items (r ∷ rs) more =
-    ap (λ (xs : List Input). map OfScript (items_to r.time items) ++ OfCapture r ∷ xs) (inputs_more (items_behind r.time items) rs more)
-    ∙ sym (append_assoc (map OfScript (items_to r.time items)) (OfCapture r ∷ inputs (items_behind r.time items) rs) (inputs (items_left (items_behind r.time items) rs) more))
-
-pub inputs_next : (items : List Item) (rs : List Timed) (r : Timed) → inputs items (rs ++ r ∷ []) ≡ (inputs items rs ++ map OfScript (items_to r.time (items_left items rs))) ++ OfCapture r ∷ []
-inputs_next items rs r = inputs_more items rs (r ∷ []) ∙ sym (append_assoc (inputs items rs) (map OfScript (items_to r.time (items_left items rs))) (OfCapture r ∷ []))
-
-pub left_more : (items : List Item) (rs more : List Timed) → items_left items (rs ++ more) ≡ items_left (items_left items rs) more
-left_more items [] more = refl
-left_more items (r ∷ rs) more = left_more (items_behind r.time items) rs more
 
 -- ---- items one by one
 

@@ -2,7 +2,7 @@ pub mod Forms
 pub mod Progress
 pub mod Printing
 pub mod Clocks
-pub mod Lanes
+pub mod Ahead
 pub mod Items
 pub mod Playing
 pub mod Replaying

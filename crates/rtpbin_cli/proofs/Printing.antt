@@ -33,6 +33,6 @@ pub print_fails : {L : Type 0} (text : L → List ℕ) (xs : List L) (i : ℕ) (
 print_fails text xs i x stop.Write a b c o o' o'' lt is before same h = (front_fails text xs i x a b c lt is before h.0, subst (λ (n : ℕ). n < o'') same h.1)
 print_fails text xs i x stop.Memory a b c o o' o'' lt is before same h = (front_fails text xs i x a b c lt is before h.0, h.1 ∙ same)
 print_fails text xs i x stop.Usage a b c o o' o'' lt is before same h = absurd h
-print_fails text xs i x (stop.Script fault) a b c o o' o'' lt is before same h = absurd h
+print_fails text xs i x (stop.Script line cause) a b c o o' o'' lt is before same h = absurd h
 print_fails text xs i x stop.Read a b c o o' o'' lt is before same h = absurd h
 print_fails text xs i x (stop.Capture fault) a b c o o' o'' lt is before same h = absurd h

@@ -149,7 +149,7 @@ prints_more bytes (Ok x) old new o o' h = (bytes, h.0)
 prints_more bytes (Err stop.Write) old new o o' h = (take h.0.0 bytes, h.0.2)
 prints_more bytes (Err stop.Memory) old new o o' h = (take h.0.0 bytes, h.0.2)
 prints_more bytes (Err stop.Usage) old new o o' h = absurd h
-prints_more bytes (Err (stop.Script fault)) old new o o' h = absurd h
+prints_more bytes (Err (stop.Script line cause)) old new o o' h = absurd h
 prints_more bytes (Err stop.Read) old new o o' h = absurd h
 prints_more bytes (Err (stop.Capture fault)) old new o o' h = absurd h
 
@@ -277,7 +277,7 @@ done_ends output Took result start now next place held rest old new new' o o' la
     at (Err stop.Write) w h = λ told. (front w told, took told)
     at (Err stop.Memory) w h = front w
     at (Err stop.Usage) w h = absurd h
-    at (Err (stop.Script fault)) w h = absurd h
+    at (Err (stop.Script line cause)) w h = absurd h
     at (Err stop.Read) w h = absurd h
     at (Err (stop.Capture fault)) w h = absurd h
 
@@ -289,7 +289,7 @@ pub line_ends : (output : Output) (Took : List Record → Type 0) (why : Stop) (
 line_ends output Took stop.Write start now next place place' held held' r old new new' o o' law p t bound on front h = λ told. (line_stops output Took start now next place place' held held' r old new new' law p t front told, line_took output Took start now next place place' held held' r old new new' law p t bound on told)
 line_ends output Took stop.Memory start now next place place' held held' r old new new' o o' law p t bound on front h = line_stops output Took start now next place place' held held' r old new new' law p t front
 line_ends output Took stop.Usage start now next place place' held held' r old new new' o o' law p t bound on front h = absurd h
-line_ends output Took (stop.Script fault) start now next place place' held held' r old new new' o o' law p t bound on front h = absurd h
+line_ends output Took (stop.Script line cause) start now next place place' held held' r old new new' o o' law p t bound on front h = absurd h
 line_ends output Took stop.Read start now next place place' held held' r old new new' o o' law p t bound on front h = absurd h
 line_ends output Took (stop.Capture fault) start now next place place' held held' r old new new' o o' law p t bound on front h = absurd h
 
@@ -305,7 +305,7 @@ prints_write p bytes whole (Err why) old new new' o o' is w h =
     at stop.Write h = h.0
     at stop.Memory h = h.0
     at stop.Usage h = absurd h
-    at (stop.Script fault) h = absurd h
+    at (stop.Script line cause) h = absurd h
     at stop.Read h = absurd h
     at (stop.Capture fault) h = absurd h
 
@@ -314,7 +314,7 @@ prints_cause bytes (Ok x) old new o o' h = h.1
 prints_cause bytes (Err stop.Write) old new o o' h = h.1
 prints_cause bytes (Err stop.Memory) old new o o' h = h.1
 prints_cause bytes (Err stop.Usage) old new o o' h = absurd h
-prints_cause bytes (Err (stop.Script fault)) old new o o' h = absurd h
+prints_cause bytes (Err (stop.Script line cause)) old new o o' h = absurd h
 prints_cause bytes (Err stop.Read) old new o o' h = absurd h
 prints_cause bytes (Err (stop.Capture fault)) old new o o' h = absurd h
 

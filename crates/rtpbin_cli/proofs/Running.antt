@@ -6,12 +6,13 @@ use Rattle.std.proofs.lemmas.Slice.Eq.{bytes_eq-Decides}
 use Rattle.rtp_io.specs.Outside.{AreBytes, Disk, SameDisk, IsOpened, IsClosed, Adds, AddsFront}
 use Rattle.rtp_io.specs.Laws.{told_then, adds_none, adds_same}
 use Rattle.pcap_file.specs.Capture.{capture_of}
-use Rattle.rtpbin_cli.specs.declared.script.ScriptFault.{ScriptFault}
+use Rattle.script_lang.specs.declared.fault.ScriptFault.{ScriptFault}
+use Rattle.script_lang.specs.declared.fault.ScriptFault.TheVariants.{Bad}
+use Rattle.script_lang.specs.Contents.{Contents}
+use Rattle.script_lang.specs.Grammar.{read_script}
 use Rattle.rtpbin_cli.specs.declared.stop.Stop.{Stop}
 use Rattle.rtpbin_cli.specs.declared.stop.Stop.TheVariants as stop
 use Rattle.rtpbin_cli.specs.Words.{Form, Replay, Dump, capture_name}
-use Rattle.rtpbin_cli.specs.Chosen.{Chosen}
-use Rattle.rtpbin_cli.specs.Script.{script_of}
 use Rattle.rtpbin_cli.specs.Output.{Output, output_of}
 use Rattle.rtpbin_cli.specs.Commands.{output_by, replay_by, replay_output}
 use Rattle.rtpbin_cli.specs.Outcome.{Wanted, BadScript, Written, HasTaken, want_from, given_from, stop_from, wanted_of, out_of, stop_of, given_of, part_from, read_out}
@@ -39,10 +40,10 @@ given_closed name after closed = ap (λ (o : Option (List ℕ)). given_from name
 -- without records nothing goes out
 none_of_each : (contents : List ℕ → List ℕ) (form : Form) (output : Output) → output_by contents form ≡ Ok output → output.part [] ≡ []
 none_of_each contents (Dump capture) output is = let e : dump_output ≡ output = cc in subst (λ (o : Output). o.part [] ≡ []) e dump_goes_on.none
-none_of_each contents (Replay hex capture script) output is = at (script_of (contents script)) is
+none_of_each contents (Replay hex capture script) output is = at (read_script (contents script)) is
   where
-    at : (read : Result Chosen ScriptFault) → replay_by hex read ≡ Ok output → output.part [] ≡ []
-    at (Ok chosen) e = let same : replay_output hex chosen ≡ output = cc in subst (λ (o : Output). o.part [] ≡ []) same (none_of_replay hex chosen)
+    at : (read : Result Contents ScriptFault) → replay_by hex read ≡ Ok output → output.part [] ≡ []
+    at (Ok c) e = let same : replay_output hex c ≡ output = cc in subst (λ (o : Output). o.part [] ≡ []) same (none_of_replay hex c)
     at (Err fault) e = absurd cc
 
 read_closed : (form : Form) (after : Disk) → after.opened ≡ None → read_out (Some form) after ≡ []
@@ -51,34 +52,34 @@ read_closed form after closed =
     ∙ part_none (output_by after.contents form) [] (λ output is. (none_of_each after.contents form output is, no_records [] (omega arith)))
 
 -- the script is open, and perhaps it is the capture too
-script_given : BeginsNoCapture → (capture script : List ℕ) (chosen : Chosen) (after : Disk) → AreBytes (after.contents script) → after.opened ≡ Some script → script_of (after.contents script) ≡ Ok chosen → (capture_of (given_of capture after)).records ≡ []
-script_given law capture script chosen after bytes opened is =
+script_given : BeginsNoCapture → (capture script : List ℕ) (c : Contents) (after : Disk) → AreBytes (after.contents script) → after.opened ≡ Some script → read_script (after.contents script) ≡ Ok c → (capture_of (given_of capture after)).records ≡ []
+script_given law capture script c after bytes opened is =
     ap (λ (o : Option (List ℕ)). (capture_of (given_from capture after o)).records) opened ∙ at (bytes_eq script capture) refl
   where
     at : (b : Bool) → bytes_eq script capture ≡ b → (capture_of (if b then take (length (after.contents capture) - length after.left) (after.contents capture) else [])).records ≡ []
     at true same =
         let name = (bytes_eq-Decides script capture).0 same in
-        begins_no_capture law (after.contents capture) chosen (length (after.contents capture) - length after.left)
-        (subst (λ (n : List ℕ). AreBytes (after.contents n)) name bytes) (subst (λ (n : List ℕ). script_of (after.contents n) ≡ Ok chosen) name is)
+        begins_no_capture law (after.contents capture) c (length (after.contents capture) - length after.left)
+        (subst (λ (n : List ℕ). AreBytes (after.contents n)) name bytes) (subst (λ (n : List ℕ). read_script (after.contents n) ≡ Ok c) name is)
     at false same = no_records [] (omega arith)
 
 -- where a replay has an output, its script has no fault
-chosen_by : (hex : Bool) (read : Result Chosen ScriptFault) (output : Output) → replay_by hex read ≡ Ok output → (chosen : Chosen) × (read ≡ Ok chosen)
-chosen_by hex (Ok chosen) output is = (chosen, refl)
-chosen_by hex (Err fault) output is = absurd cc
+contents_by : (hex : Bool) (read : Result Contents ScriptFault) (output : Output) → replay_by hex read ≡ Ok output → (c : Contents) × (read ≡ Ok c)
+contents_by hex (Ok c) output is = (c, refl)
+contents_by hex (Err fault) output is = absurd cc
 
 read_script_out : BeginsNoCapture → (hex : Bool) (capture script : List ℕ) (after : Disk) → AreBytes (after.contents script) → after.opened ≡ Some script → read_out (Some (Replay hex capture script)) after ≡ []
 read_script_out law hex capture script after bytes opened =
-    part_none (replay_by hex (script_of (after.contents script))) (given_of capture after)
-    (λ output is. (none_of_each after.contents (Replay hex capture script) output is, let s = chosen_by hex (script_of (after.contents script)) output is in script_given law capture script s.0 after bytes opened s.1))
+    part_none (replay_by hex (read_script (after.contents script))) (given_of capture after)
+    (λ output is. (none_of_each after.contents (Replay hex capture script) output is, let s = contents_by hex (read_script (after.contents script)) output is in script_given law capture script s.0 after bytes opened s.1))
 
 -- ---- the parts
 
 pub script_stops : BeginsNoCapture → (hex : Bool) (capture script : List ℕ) (why : Stop) (before after : Disk) (old : Option (List ℕ)) → SameDisk before after → ReadsScript (Err why) script before after → IsTrue before.told
     → Runs (Err why) (wanted_of before.contents (Replay hex capture script)) (Some (Replay hex capture script)) after old old
-script_stops law hex capture script (stop.Script fault) before after old same is told =
+script_stops law hex capture script (stop.Script line cause) before after old same is told =
     let c = capture_of (before.contents capture) in
-    let w : want_from (replay_by hex (script_of (before.contents script))) c ≡ BadScript fault = ap (λ (r : Result Chosen ScriptFault). want_from (replay_by hex r) c) (is told) in
+    let w : want_from (replay_by hex (read_script (before.contents script))) c ≡ BadScript (Bad line cause) = ap (λ (r : Result Contents ScriptFault). want_from (replay_by hex r) c) (is told) in
     (ap stop_of w, adds_same [] (out_of (wanted_of before.contents (Replay hex capture script))) old old (sym (ap out_of w)) (adds_none old))
 script_stops law hex capture script stop.Read before after old same is told = elim (is told) [
   | inl closed ↦ adds_same [] (read_out (Some (Replay hex capture script)) after) old old (sym (read_closed (Replay hex capture script) after closed)) (adds_none old)
@@ -146,4 +147,4 @@ capture_runs form output result before start after old new told same same' by op
     at (Err stop.Write) h = (front (h here).0, took (h here).1)
     at (Err stop.Memory) h = front (h here)
     at (Err stop.Usage) h = absurd h
-    at (Err (stop.Script fault)) h = absurd h
+    at (Err (stop.Script line cause)) h = absurd h

@@ -13,25 +13,24 @@ use Rattle.pcap_file.specs.declared.order.Order.TheVariants.{Little, Big}
 use Rattle.pcap_file.specs.Numbers.{number_at}
 use Rattle.pcap_file.specs.Capture.{capture_of, format_of, format_in, order_of, behind_header, empty}
 use Rattle.script_lang.specs.declared.fault.ScriptCause.TheVariants.{Size}
-use Rattle.script_lang.specs.declared.fault.ScriptFault.{ScriptFault as Refusal}
-use Rattle.script_lang.specs.declared.fault.ScriptFault.TheVariants as refusal
+use Rattle.script_lang.specs.declared.fault.ScriptFault.{ScriptFault}
+use Rattle.script_lang.specs.declared.fault.ScriptFault.TheVariants.{Bad, OutOfMemory}
 use Rattle.script_lang.specs.Contents.{Contents}
 use Rattle.script_lang.specs.Grammar.{read_script}
-use Rattle.rtpbin_cli.specs.declared.script.ScriptCause.TheVariants.{Language}
-use Rattle.rtpbin_cli.specs.Chosen.{Chosen}
-use Rattle.rtpbin_cli.specs.Script.{script_of, script_from}
+use Rattle.script_lang.specs.Reading.{Answers}
 use Rattle.rtpbin_cli.specs.declared.stop.Stop.{Stop}
 use Rattle.rtpbin_cli.specs.declared.stop.Stop.TheVariants as stop
+use Rattle.rtpbin_cli.specs.Outcome.{stop_of_script}
 use Rattle.rtpbin_cli.specs.Steps.{HasStopCause, ReadsScript, ReadsText}
 
-script_big : (text : List ℕ) → 1048576 < length text → script_of text ≡ Err (record { line = 0; cause = Language Size })
+script_big : (text : List ℕ) → 1048576 < length text → read_script text ≡ Err (Bad 0 Size)
 unfolding read_script
 script_big text big = rw (lt-ltb 1048576 (length text) big) refl
 
-pub script_front : (contents buf : List ℕ) (n : ℕ) (a b : Disk) → a.left ≡ contents → FillsFrom n buf a b → 1048576 < length buf → n ≤ length buf → script_of contents ≡ script_of (take n buf)
+pub script_front : (contents buf : List ℕ) (n : ℕ) (a b : Disk) → a.left ≡ contents → FillsFrom n buf a b → 1048576 < length buf → n ≤ length buf → read_script contents ≡ read_script (take n buf)
 script_front contents buf n a b left fills size bound =
     elim (cases_lt n (length buf)) [
-      | inl short ↦ ap script_of (sym left ∙ fills.front ∙ ap (λ (l : List ℕ). take n buf ++ l) (fills.all short) ∙ append-nil (take n buf))
+      | inl short ↦ ap read_script (sym left ∙ fills.front ∙ ap (λ (l : List ℕ). take n buf ++ l) (fills.all short) ∙ append-nil (take n buf))
       | inr full ↦
           let len : length (take n buf) ≡ n = length-take-le n buf bound in
           script_big contents (omega (arith, ap length (sym left ∙ fills.front), length-append (take n buf) b.left)) ∙ sym (script_big (take n buf) (omega arith))
@@ -42,11 +41,6 @@ unfolding capture_of
 no_records bytes short = rw (lt-ltb (length bytes) 24 short) refl
 
 -- ---- a script without a fault begins no capture
-
-contents_known : (read : Result Contents Refusal) (chosen : Chosen) → script_from read ≡ Ok chosen → (c : Contents) × (read ≡ Ok c)
-contents_known (Ok c) chosen is = (c, refl)
-contents_known (Err (refusal.Bad line cause)) chosen is = absurd cc
-contents_known (Err refusal.OutOfMemory) chosen is = absurd cc
 
 -- no script has one of these fronts
 pub record BeginsNoCapture : Type 0 where
@@ -113,8 +107,8 @@ no_capture a b c d xs la lb lc ld begins = at (nat_lt (length (a ∷ b ∷ c ∷
     at false = by_order (starts_with nat_eq head (0x0a ∷ 0x0d ∷ 0x0d ∷ 0x0a ∷ [])) (order_of head) (no_order a b c d (take 20 xs) la lb lc ld begins)
 
 -- nor does a front of it
-pub begins_no_capture : BeginsNoCapture → (text : List ℕ) (chosen : Chosen) (k : ℕ) → AreBytes text → script_of text ≡ Ok chosen → (capture_of (take k text)).records ≡ []
-begins_no_capture law text chosen k bytes is = let known = contents_known (read_script text) chosen is in at text k bytes known.0 known.1
+pub begins_no_capture : BeginsNoCapture → (text : List ℕ) (c : Contents) (k : ℕ) → AreBytes text → read_script text ≡ Ok c → (capture_of (take k text)).records ≡ []
+begins_no_capture law text c k bytes is = at text k bytes c is
   where
     at : (text : List ℕ) (k : ℕ) → AreBytes text → (c : Contents) → read_script text ≡ Ok c → (capture_of (take k text)).records ≡ []
     at (a ∷ b ∷ c ∷ d ∷ xs) (suc (suc (suc (suc k)))) bytes contents is =
@@ -130,18 +124,23 @@ begins_no_capture law text chosen k bytes is = let known = contents_known (read_
 
 -- ---- a script that was read
 
-pub reads_script : (r : Result Chosen Stop) (name text : List ℕ) (before after : Disk) → (IsTrue before.told → script_of (before.contents name) ≡ script_of text) → ReadsText r text → ReadsScript r name before after
-reads_script (Ok chosen) name text before after same reads = λ told. same told ∙ reads
-reads_script (Err (stop.Script fault)) name text before after same reads = λ told. same told ∙ reads
+-- a text was read, or its fault found
+pub reads_text : (fault : ScriptFault) (text : List ℕ) → Answers {A = Contents} (Err fault) (read_script text) → ReadsText (Err (stop_of_script fault)) text
+reads_text (Bad line cause) text answers = answers
+reads_text OutOfMemory text answers = tt
+
+pub reads_script : (r : Result Contents Stop) (name text : List ℕ) (before after : Disk) → (IsTrue before.told → read_script (before.contents name) ≡ read_script text) → ReadsText r text → ReadsScript r name before after
+reads_script (Ok c) name text before after same reads = λ told. same told ∙ reads
+reads_script (Err (stop.Script line cause)) name text before after same reads = λ told. same told ∙ reads
 reads_script (Err stop.Memory) name text before after same reads = tt
 reads_script (Err stop.Usage) name text before after same reads = absurd reads
 reads_script (Err stop.Read) name text before after same reads = absurd reads
 reads_script (Err stop.Write) name text before after same reads = absurd reads
 reads_script (Err (stop.Capture fault)) name text before after same reads = absurd reads
 
-pub reads_cause : (r : Result Chosen Stop) (text : List ℕ) (f f' : ℕ) → f' ≡ f → ReadsText r text → HasStopCause r f f' 0 0
-reads_cause (Ok chosen) text f f' same reads = (same, refl)
-reads_cause (Err (stop.Script fault)) text f f' same reads = (same, refl)
+pub reads_cause : (r : Result Contents Stop) (text : List ℕ) (f f' : ℕ) → f' ≡ f → ReadsText r text → HasStopCause r f f' 0 0
+reads_cause (Ok c) text f f' same reads = (same, refl)
+reads_cause (Err (stop.Script line cause)) text f f' same reads = (same, refl)
 reads_cause (Err stop.Memory) text f f' same reads = (same, refl)
 reads_cause (Err stop.Usage) text f f' same reads = absurd reads
 reads_cause (Err stop.Read) text f f' same reads = absurd reads

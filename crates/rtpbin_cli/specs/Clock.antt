@@ -1,7 +1,7 @@
 -- The records that a clock has passed.
 use Rattle.std.specs.Prelude.{◌≡◌, ℕ, List, [], ◌∷◌, Option, Some, None}
 use Rattle.pcap_file.specs.Capture.{Record}
-use Rattle.log_model.specs.Times.{time_after}
+use Rattle.timeline.specs.Times.{time_after}
 use Rattle.rtpbin_cli.specs.declared.clock.RecordClock.{RecordClock}
 
 -- the stamp of the first record

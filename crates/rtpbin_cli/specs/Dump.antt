@@ -1,5 +1,6 @@
 -- The lines of a dump: one for each record, and the last one.
-use Rattle.std.specs.Prelude.{ℕ, ◌+◌, ◌/◌, ◌&&◌, nat_le, Bool, false, List, [], ◌∷◌, ◌++◌, length, map, Option, Some, None, Result, Ok, Err, if◌then◌else◌}
+use Rattle.std.specs.Prelude.{ℕ, ◌+◌, ◌/◌, ◌&&◌, nat_le, Bool, false, if◌then◌else◌}
+use Rattle.std.specs.Prelude.{List, [], ◌∷◌, ◌++◌, length, map, Option, Some, None, Result, Ok, Err}
 use Rattle.std.specs.List.{flat_map}
 use Rattle.pcap_file.specs.Capture.{Record}
 use Rattle.pcap_file.specs.Datagrams.{Sent, datagram_of}
@@ -17,7 +18,7 @@ use Rattle.timeline.specs.declared.dumped.Ports.{Ports}
 use Rattle.timeline.specs.declared.dumped.RtpFacts.{RtpFacts}
 use Rattle.timeline.specs.declared.dumped.DumpLine.{DumpLine}
 use Rattle.timeline.specs.declared.dumped.DumpLine.TheVariants as told
-use Rattle.log_model.specs.Times.{Timed, at_times}
+use Rattle.timeline.specs.Times.{Timed, at_times}
 use Rattle.log_text.specs.Dumped.{dump_text}
 use Rattle.rtpbin_cli.specs.Output.{Output}
 
@@ -55,7 +56,8 @@ rtp_line number time ports payload None = told.Rtp number time ports (facts_of (
 -- A compound has a word for each fault but want of memory, which is none of its bytes.
 abbrev pub bad_line : ℕ → ℕ → Ports → Option (Word × ℕ) → DumpLine
 bad_line number time ports None = told.Done 0
-bad_line number time ports (Some (why, offset)) = told.BadRtcp number time ports (record { word = why; offset = offset })
+bad_line number time ports (Some (why, offset)) =
+    told.BadRtcp number time ports (record { word = why; offset = offset })
 
 abbrev pub rtcp_line : ℕ → ℕ → Ports → Result (List Rtcp) RtcpFault → DumpLine
 rtcp_line number time ports (Ok packets) = told.Rtcp number time ports (map kind_byte packets)
@@ -93,4 +95,7 @@ unfoldable pub dump_part : List Record → List ℕ
 dump_part seen = texts_of (lines_behind 0 (at_times seen))
 
 abbrev pub dump_output : Output
-dump_output = record { part = dump_part; whole = λ seen. dump_part seen ++ dump_text (told.Done (length seen)) }
+dump_output = record {
+  part = dump_part;
+  whole = λ seen. dump_part seen ++ dump_text (told.Done (length seen));
+}

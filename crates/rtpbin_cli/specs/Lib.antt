@@ -2,8 +2,6 @@ pub mod Words
 pub mod Output
 pub mod Taken
 pub mod Clock
-pub mod Chosen
-pub mod Script
 pub mod Dump
 pub mod Commands
 pub mod Outcome

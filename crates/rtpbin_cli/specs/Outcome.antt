@@ -1,5 +1,6 @@
 -- How a run ends: what the input calls for, and what an answer says.
-use Rattle.std.specs.Prelude.{◌≡◌, ◌≢◌, ◌<◌, ◌⊎◌, ℕ, ◌-◌, IsTrue, List, [], ◌++◌, length, take, codes, Option, Some, None, Result, Ok, Err, bytes_eq, if◌then◌else◌}
+use Rattle.std.specs.Prelude.{◌≡◌, ◌≢◌, ◌<◌, ◌⊎◌, ℕ, ◌-◌, IsTrue, List, [], ◌++◌, length, take}
+use Rattle.std.specs.Prelude.{codes, Option, Some, None, Result, Ok, Err, bytes_eq, if◌then◌else◌}
 use Rattle.std.specs.Fmt.{decimal}
 use Rattle.rtp_io.specs.Outside.{Disk, Adds, AddsFront}
 use Rattle.pcap_file.specs.declared.fault.CaptureFault.{CaptureFault}
@@ -9,9 +10,9 @@ use Rattle.rtpbin_cli.specs.declared.status.Status.{Status}
 use Rattle.rtpbin_cli.specs.declared.status.Status.TheVariants as status
 use Rattle.rtpbin_cli.specs.declared.stop.Stop.{Stop}
 use Rattle.rtpbin_cli.specs.declared.stop.Stop.TheVariants as stop
-use Rattle.rtpbin_cli.specs.declared.script.ScriptFault.{ScriptFault}
-use Rattle.rtpbin_cli.specs.declared.script.ScriptCause.{ScriptCause}
-use Rattle.rtpbin_cli.specs.declared.script.ScriptCause.TheVariants as causes
+use Rattle.script_lang.specs.declared.fault.ScriptFault.{ScriptFault}
+use Rattle.script_lang.specs.declared.fault.ScriptFault.TheVariants as refusal
+use Rattle.script_lang.specs.declared.fault.ScriptCause.{ScriptCause}
 use Rattle.script_lang.specs.Causes.{word_of as word_for}
 use Rattle.rtpbin_cli.specs.Words.{Form, Replay, Dump, capture_name}
 use Rattle.rtpbin_cli.specs.Output.{Output, output_of}
@@ -32,7 +33,8 @@ want_from (Ok output) capture = Written output capture
 
 -- of a form, by the contents of the files
 abbrev pub wanted_of : (List ℕ → List ℕ) → Form → Wanted
-wanted_of contents form = want_from (output_by contents form) (capture_of (contents (capture_name form)))
+wanted_of contents form =
+    want_from (output_by contents form) (capture_of (contents (capture_name form)))
 
 abbrev pub wanted : (List ℕ → List ℕ) → Option Form → Wanted
 wanted contents None = Usage
@@ -44,7 +46,12 @@ out_of Usage = []
 out_of (BadScript fault) = []
 out_of (Written output capture) = output_of output capture
 
--- why a run stopped, by the fault of its capture
+-- why a run stopped, by the fault of its script; no bytes have want of memory
+abbrev pub stop_of_script : ScriptFault → Stop
+stop_of_script (refusal.Bad line cause) = stop.Script line cause
+stop_of_script refusal.OutOfMemory = stop.Memory
+
+-- and by the fault of its capture
 abbrev pub stop_from : Option CaptureFault → Option Stop
 stop_from None = None
 stop_from (Some fault) = Some (stop.Capture fault)
@@ -52,12 +59,12 @@ stop_from (Some fault) = Some (stop.Capture fault)
 -- why a run stopped, if it did
 abbrev pub stop_of : Wanted → Option Stop
 stop_of Usage = Some stop.Usage
-stop_of (BadScript fault) = Some (stop.Script fault)
+stop_of (BadScript fault) = Some (stop_of_script fault)
 stop_of (Written output capture) = stop_from capture.fault
 
 abbrev pub status_of_stop : Stop → Status
 status_of_stop stop.Usage = status.Usage
-status_of_stop (stop.Script fault) = status.Script
+status_of_stop (stop.Script line cause) = status.Script
 status_of_stop stop.Read = status.Read
 status_of_stop (stop.Capture fault) = status.Capture
 status_of_stop stop.Write = status.Write
@@ -69,9 +76,8 @@ status_of (Some why) = status_of_stop why
 
 -- ---- texts
 
-abbrev pub cause_text : ScriptCause → List ℕ
-cause_text (causes.Language cause) = word_for cause
-cause_text causes.Unbuilt = codes "unbuilt"
+abbrev pub script_text : ℕ → ScriptCause → List ℕ
+script_text line cause = decimal line ++ codes ": " ++ word_for cause
 
 abbrev pub capture_text : CaptureFault → List ℕ
 capture_text fault = decimal (offset_of fault) ++ codes ": " ++ word_of fault
@@ -80,11 +86,15 @@ abbrev pub memory_text : List ℕ
 memory_text = codes "rtpbin: out of memory\n"
 
 abbrev pub usage_text : List ℕ
-usage_text = codes "rtpbin: usage: replay [-x] CAPTURE SCRIPT | dump CAPTURE | rtxsend CAPTURE SCRIPT | gen NUMBER COUNT | live [-x] CAPTURE SCRIPT\n"
+usage_text =
+    codes "rtpbin: usage: replay [-x] CAPTURE SCRIPT | dump CAPTURE | "
+    ++ codes "rtxsend CAPTURE SCRIPT | gen NUMBER COUNT | live [-x] CAPTURE SCRIPT | "
+    ++ codes "sdp CAPTURE SDP TIMES | depay FORMAT PT CAPTURE SCRIPT\n"
 
 abbrev pub text_of : Stop → List ℕ
 text_of stop.Usage = usage_text
-text_of (stop.Script fault) = codes "rtpbin: script line " ++ decimal fault.line ++ codes ": " ++ cause_text fault.cause ++ codes "\n"
+text_of (stop.Script line cause) =
+    codes "rtpbin: script line " ++ script_text line cause ++ codes "\n"
 text_of stop.Read = codes "rtpbin: read failed\n"
 text_of (stop.Capture fault) = codes "rtpbin: capture at " ++ capture_text fault ++ codes "\n"
 text_of stop.Write = []
@@ -100,10 +110,14 @@ err_of want = err_from (stop_of want)
 
 -- ---- a failed read
 
--- The bytes that the file of this name gave: its contents without what is left, where it is the open file.
+-- The bytes that the file of this name gave: its contents without what is left, where it is the
+-- open file.
 abbrev pub given_from : List ℕ → Disk → Option (List ℕ) → List ℕ
 given_from name after None = []
-given_from name after (Some opened) = if bytes_eq opened name then take (length (after.contents name) - length after.left) (after.contents name) else []
+given_from name after (Some opened) =
+    if bytes_eq opened name
+    then take (length (after.contents name) - length after.left) (after.contents name)
+    else []
 
 abbrev pub given_of : List ℕ → Disk → List ℕ
 given_of name after = given_from name after after.opened
@@ -115,14 +129,16 @@ part_from (Ok output) given = output.part (capture_of given).records
 
 abbrev pub read_out : Option Form → Disk → List ℕ
 read_out None after = []
-read_out (Some form) after = part_from (output_by after.contents form) (given_of (capture_name form) after)
+read_out (Some form) after =
+    part_from (output_by after.contents form) (given_of (capture_name form) after)
 
 -- ---- the parts of the promise
 
 -- the names of the form may be opened
 abbrev pub MayOpen : Option Form → Disk → Type 0
 MayOpen None disk = Unit {0}
-MayOpen (Some (Replay hex capture script)) disk = IsTrue (disk.may_open script) × IsTrue (disk.may_open capture)
+MayOpen (Some (Replay hex capture script)) disk =
+    IsTrue (disk.may_open script) × IsTrue (disk.may_open capture)
 MayOpen (Some (Dump capture)) disk = IsTrue (disk.may_open capture)
 
 -- what is opened is told, or nothing is opened
@@ -149,10 +165,12 @@ IsAnswer answer want = answer ≡ status_of (stop_of want)
 
 -- a front of the output that the input calls for, or of the one that a failed read leaves
 abbrev pub IsFront : Wanted → Option Form → Disk → Option (List ℕ) → Option (List ℕ) → Type 0
-IsFront want form after old new = AddsFront (out_of want) old new ⊎ AddsFront (read_out form after) old new
+IsFront want form after old new =
+    AddsFront (out_of want) old new ⊎ AddsFront (read_out form after) old new
 
 -- what was added to the output
-abbrev pub HasOut : Status → Wanted → Option Form → Disk → Option (List ℕ) → Option (List ℕ) → Type 0
+abbrev pub HasOut : Status → Wanted → Option Form → Disk
+    → Option (List ℕ) → Option (List ℕ) → Type 0
 HasOut status.Read want form after old new = Adds (read_out form after) old new
 HasOut status.Write want form after old new = IsFront want form after old new
 HasOut status.Memory want form after old new = IsFront want form after old new
@@ -160,13 +178,15 @@ HasOut answer want form after old new = Adds (out_of want) old new
 
 -- what was taken from the capture, where its lines could not all be written
 abbrev pub HasTaken : Wanted → Option Form → Disk → Option (List ℕ) → Option (List ℕ) → Type 0
-HasTaken (Written output capture) (Some form) after old new = TakesFew output capture.records (given_of (capture_name form) after) old new
+HasTaken (Written output capture) (Some form) after old new =
+    TakesFew output capture.records (given_of (capture_name form) after) old new
 HasTaken want form after old new = Unit {0}
 
--- why a run may stop with a text of its own: no form of words, a failed read, or what else the files have; f and f' are the faults of the files before and after
+-- why a run may stop with a text of its own: no form of words, a failed read, or what else the
+-- files have; f and f' are the faults of the files before and after
 abbrev pub MayStop : Option Form → ℕ → ℕ → Stop → Type 0
 MayStop form f f' stop.Usage = (form ≡ None) × (f' ≡ f)
-MayStop form f f' (stop.Script fault) = (form ≢ None) × (f' ≡ f)
+MayStop form f f' (stop.Script line cause) = (form ≢ None) × (f' ≡ f)
 MayStop form f f' (stop.Capture fault) = (form ≢ None) × (f' ≡ f)
 MayStop form f f' stop.Read = f < f'
 MayStop form f f' stop.Memory = Unit {0}
@@ -185,24 +205,30 @@ pub record CutText (Stops : Stop → Type 0) (old new : Option (List ℕ)) : Typ
   pub stops : Stops why
   pub front : AddsFront (text_of why) old new
 
--- What was added to the errors where a write failed: nothing if it was one of the output, whose faults were o before and o' after.
+-- What was added to the errors where a write failed: nothing if it was one of the output, whose
+-- faults were o before and o' after.
 abbrev pub HasCutErr : (Stop → Type 0) → ℕ → ℕ → Option (List ℕ) → Option (List ℕ) → Type 0
-HasCutErr Stops o o' old new = ((o < o') × Adds [] old new) ⊎ ((o' ≡ o) × CutText Stops old new)
+HasCutErr Stops o o' old new =
+    ((o < o') × Adds [] old new) ⊎ ((o' ≡ o) × CutText Stops old new)
 
 -- what was added to the errors, where the input is known
-abbrev pub HasErr : Status → Wanted → ℕ → ℕ → ℕ → ℕ → Option (List ℕ) → Option (List ℕ) → Type 0
+abbrev pub HasErr : Status → Wanted → ℕ → ℕ → ℕ → ℕ
+    → Option (List ℕ) → Option (List ℕ) → Type 0
 HasErr status.Read want f f' o o' old new = Adds (text_of stop.Read) old new
 HasErr status.Write want f f' o o' old new = HasCutErr (MustStop want f f') o o' old new
 HasErr status.Memory want f f' o o' old new = Adds memory_text old new
 HasErr answer want f f' o o' old new = Adds (err_of want) old new
 
 -- and where it is not
-abbrev pub HasSomeErr : Status → Option Form → ℕ → ℕ → ℕ → ℕ → Option (List ℕ) → Option (List ℕ) → Type 0
+abbrev pub HasSomeErr : Status → Option Form → ℕ → ℕ → ℕ → ℕ
+    → Option (List ℕ) → Option (List ℕ) → Type 0
 HasSomeErr status.Done form f f' o o' old new = Adds [] old new
 HasSomeErr status.Usage form f f' o o' old new = Adds usage_text old new
-HasSomeErr status.Script form f f' o o' old new = (fault : ScriptFault) × Adds (text_of (stop.Script fault)) old new
+HasSomeErr status.Script form f f' o o' old new =
+    (line : ℕ) × (cause : ScriptCause) × Adds (text_of (stop.Script line cause)) old new
 HasSomeErr status.Read form f f' o o' old new = Adds (text_of stop.Read) old new
-HasSomeErr status.Capture form f f' o o' old new = (fault : CaptureFault) × Adds (text_of (stop.Capture fault)) old new
+HasSomeErr status.Capture form f f' o o' old new =
+    (fault : CaptureFault) × Adds (text_of (stop.Capture fault)) old new
 HasSomeErr status.Write form f f' o o' old new = HasCutErr (MayStop form f f') o o' old new
 HasSomeErr status.Memory form f f' o o' old new = Adds memory_text old new
 

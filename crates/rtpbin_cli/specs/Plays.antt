@@ -1,37 +1,86 @@
 -- What the steps of a replay promise each other.
-use Rattle.std.specs.Prelude.{◌≡◌, ℕ, List, [], ◌∷◌, ◌++◌, Option, Result, Ok, Err}
+use Rattle.std.specs.Prelude.{◌≡◌, ◌≤◌, ℕ, Bool, false, List, [], ◌∷◌, ◌++◌}
+use Rattle.std.specs.Prelude.{Option, Result, Ok, Err}
 use Rattle.rtp_io.specs.Outside.{Adds, AddsFront}
-use Rattle.log_model.specs.declared.Item.{Item}
-use Rattle.log_model.specs.declared.Profile.{Profile}
-use Rattle.log_model.specs.Inputs.{Input}
-use Rattle.log_model.specs.Log.{log_part, log, Begins}
+use Rattle.script_lang.specs.declared.script.Item.{Item}
+use Rattle.script_lang.specs.Contents.{Contents}
+use Rattle.timeline.specs.declared.line.BinLine.{BinLine}
+use Rattle.replay_model.specs.Fitting.{IsItem}
+use Rattle.replay_model.specs.Inputs.{Input}
+use Rattle.replay_model.specs.Log.{log_part, log}
+use Rattle.replay_model.specs.Order.{input_time}
+use Rattle.bin_core.specs.Words.{records_of, time_of, is_ahead, is_finished}
 use Rattle.bin_core.specs.Bins.{BinStands}
 use Rattle.rtpbin_cli.specs.declared.player.Player.{Player}
 use Rattle.rtpbin_cli.specs.declared.stop.Stop.{Stop}
 use Rattle.rtpbin_cli.specs.Commands.{texts_of}
 use Rattle.rtpbin_cli.specs.Steps.{Writes}
 
+-- items in their ranges and in order of time, none before this time
+abbrev pub AreItems : ℕ → List Item → Type 0
+AreItems t [] = Unit {0}
+AreItems t (i ∷ is) = (t ≤ i.time) × IsItem i × AreItems i.time is
+
 -- the time behind items in order of time, from this time on
 abbrev pub time_behind : ℕ → List Item → ℕ
 time_behind t [] = t
 time_behind t (i ∷ is) = time_behind i.time is
 
--- the log of some inputs begins that of these and more, and the whole log of these
-pub record LogGoesOn : Type 0 where
-  pub part : (s : Profile) (xs more : List Input) → Begins (log_part s xs) (log_part s (xs ++ more))
-  pub whole : (s : Profile) (xs more : List Input) → Begins (log_part s xs) (log s (xs ++ more))
-
--- the player was given these inputs since the output had these bytes, and wrote all that their log has
-pub record Plays (s : Profile) (p : Player) (seen : List Input) (start now : Option (List ℕ)) : Type 0 where
-  pub stands : BinStands s p.bin seen
+-- All lines are written, nothing was served since the last input, and the end is to come.
+pub record IsReady (p : Player) : Type 0 where
   pub none : p.lines ≡ []
-  pub written : Adds (texts_of p.hex (log_part s seen)) start now
+  pub level : is_ahead p.bin ≡ false
+  pub running : is_finished p.bin ≡ false
 
--- it was given these inputs more, from one content of the output to the other
-abbrev pub PlaysMore : Result (Unit {0}) Stop → Player → Player → List Input → Option (List ℕ) → Option (List ℕ) → Type 0
-PlaysMore (Ok x) p q more old new = (s : Profile) (seen : List Input) (start : Option (List ℕ)) → Plays s p seen start old → Plays s q (seen ++ more) start new
-PlaysMore (Err why) p q more old new = (s : Profile) (seen : List Input) (start : Option (List ℕ)) → Plays s p seen start old → AddsFront (texts_of p.hex (log_part s (seen ++ more))) start new
+-- a player of this script before any input
+pub record IsFresh (c : Contents) (with_bytes : Bool) (p : Player) : Type 0 where
+  pub ready : IsReady p
+  pub hex : p.hex ≡ with_bytes
+  pub records : records_of p.bin ≡ 0
+  pub time : time_of p.bin ≡ 0
+  pub stands : BinStands c p.bin [] []
+
+-- The player was given these inputs since the output had these bytes, and wrote all that their log
+-- has.
+pub record Plays (c : Contents) (p : Player) (seen : List Input) (start now : Option (List ℕ))
+    : Type 0 where
+  pub stands : BinStands c p.bin seen []
+  pub written : Adds (texts_of p.hex (log_part c seen)) start now
+
+-- It also wrote lines of what is due since.
+pub record PlaysAhead (c : Contents) (p : Player) (seen : List Input) (start now : Option (List ℕ))
+    : Type 0 where
+  pub told : List BinLine
+  pub stands : BinStands c p.bin seen told
+  pub written : Adds (texts_of p.hex (log_part c seen ++ told)) start now
+
+-- What is due up to a time was served, from one content of the output to the other. Where that
+-- failed, what was written begins the log of whatever comes from then on.
+abbrev pub PlaysUpTo : Result (Unit {0}) Stop → ℕ → Player → Player
+    → Option (List ℕ) → Option (List ℕ) → Type 0
+PlaysUpTo (Ok x) t p q old new =
+    (c : Contents) (seen : List Input) (start : Option (List ℕ))
+    → Plays c p seen start old → PlaysAhead c q seen start new
+PlaysUpTo (Err why) t p q old new =
+    (c : Contents) (seen : List Input) (start : Option (List ℕ)) (x : Input) → t ≤ input_time x
+    → Plays c p seen start old
+    → AddsFront (texts_of p.hex (log_part c (seen ++ x ∷ []))) start new
+
+-- it was given these inputs more
+abbrev pub PlaysMore : Result (Unit {0}) Stop → Player → Player → List Input
+    → Option (List ℕ) → Option (List ℕ) → Type 0
+PlaysMore (Ok x) p q more old new =
+    (c : Contents) (seen : List Input) (start : Option (List ℕ))
+    → Plays c p seen start old → Plays c q (seen ++ more) start new
+PlaysMore (Err why) p q more old new =
+    (c : Contents) (seen : List Input) (start : Option (List ℕ))
+    → Plays c p seen start old
+    → AddsFront (texts_of p.hex (log_part c (seen ++ more))) start new
 
 -- it was given these inputs and then the end
-abbrev pub PlaysLast : Result (Unit {0}) Stop → Player → List Input → Option (List ℕ) → Option (List ℕ) → Type 0
-PlaysLast result p more old new = (s : Profile) (seen : List Input) (start : Option (List ℕ)) → Plays s p seen start old → Writes result (texts_of p.hex (log s (seen ++ more))) start new
+abbrev pub PlaysLast : Result (Unit {0}) Stop → Player → List Input
+    → Option (List ℕ) → Option (List ℕ) → Type 0
+PlaysLast result p more old new =
+    (c : Contents) (seen : List Input) (start : Option (List ℕ))
+    → Plays c p seen start old
+    → Writes result (texts_of p.hex (log c (seen ++ more))) start new

@@ -1,19 +1,22 @@
 -- What the steps of a run promise each other.
-use Rattle.std.specs.Prelude.{◌≡◌, ◌≢◌, ◌<◌, ◌⊎◌, ℕ, IsTrue, List, [], ◌++◌, Option, Some, None, Result, Ok, Err}
+use Rattle.std.specs.Prelude.{◌≡◌, ◌≢◌, ◌<◌, ◌⊎◌, ℕ, IsTrue, List, [], ◌++◌}
+use Rattle.std.specs.Prelude.{Option, Some, None, Result, Ok, Err}
 use Rattle.rtp_io.specs.Outside.{AreBytes, Disk, Adds, AddsFront}
 use Rattle.pcap_file.specs.declared.fault.CaptureFault.{CaptureFault}
 use Rattle.pcap_file.specs.declared.fault.CaptureFault.TheVariants as faults
 use Rattle.pcap_file.specs.Capture.{capture_of}
+use Rattle.script_lang.specs.declared.fault.ScriptFault.TheVariants.{Bad}
+use Rattle.script_lang.specs.Contents.{Contents}
+use Rattle.script_lang.specs.Grammar.{read_script}
 use Rattle.rtpbin_cli.specs.declared.status.Status.{Status}
 use Rattle.rtpbin_cli.specs.declared.status.Status.TheVariants as status
 use Rattle.rtpbin_cli.specs.declared.stop.Stop.{Stop}
 use Rattle.rtpbin_cli.specs.declared.stop.Stop.TheVariants as stop
 use Rattle.rtpbin_cli.specs.Words.{Form}
-use Rattle.rtpbin_cli.specs.Chosen.{Chosen}
-use Rattle.rtpbin_cli.specs.Script.{script_of}
 use Rattle.rtpbin_cli.specs.Output.{Output, output_of}
 use Rattle.rtpbin_cli.specs.Taken.{TakesFew}
-use Rattle.rtpbin_cli.specs.Outcome.{Wanted, out_of, stop_of, status_of_stop, text_of, memory_text, read_out, HasTaken}
+use Rattle.rtpbin_cli.specs.Outcome.{Wanted, out_of, stop_of, status_of_stop, text_of}
+use Rattle.rtpbin_cli.specs.Outcome.{memory_text, read_out, HasTaken}
 
 -- what a fault of the capture ends a run with
 abbrev pub stop_of_fault : CaptureFault → Stop
@@ -25,14 +28,15 @@ stop_of_fault fault = stop.Capture fault
 abbrev pub HasStopCause : {A : Type 0} → Result A Stop → ℕ → ℕ → ℕ → ℕ → Type 0
 HasStopCause (Ok x) f f' o o' = (f' ≡ f) × (o' ≡ o)
 HasStopCause (Err stop.Usage) f f' o o' = (f' ≡ f) × (o' ≡ o)
-HasStopCause (Err (stop.Script fault)) f f' o o' = (f' ≡ f) × (o' ≡ o)
+HasStopCause (Err (stop.Script line cause)) f f' o o' = (f' ≡ f) × (o' ≡ o)
 HasStopCause (Err (stop.Capture fault)) f f' o o' = (f' ≡ f) × (o' ≡ o)
 HasStopCause (Err stop.Read) f f' o o' = (f < f') × (o' ≡ o)
 HasStopCause (Err stop.Write) f f' o o' = (f' ≡ f) × (o < o')
 HasStopCause (Err stop.Memory) f f' o o' = (f' ≡ f) × (o' ≡ o)
 
 -- writing these bytes
-abbrev pub Prints : List ℕ → Result (Unit {0}) Stop → Option (List ℕ) → Option (List ℕ) → ℕ → ℕ → Type 0
+abbrev pub Prints : List ℕ → Result (Unit {0}) Stop
+    → Option (List ℕ) → Option (List ℕ) → ℕ → ℕ → Type 0
 Prints bytes (Ok x) old new o o' = Adds bytes old new × (o' ≡ o)
 Prints bytes (Err stop.Write) old new o o' = AddsFront bytes old new × (o < o')
 Prints bytes (Err stop.Memory) old new o o' = AddsFront bytes old new × (o' ≡ o)
@@ -51,48 +55,68 @@ HasWriteCause (Err stop.Memory) o o' = o' ≡ o
 HasWriteCause (Err other) o o' = ⊥
 
 -- the bytes that were given, and what was written for them
-pub record WroteGiven (output : Output) (before after : Disk) (old new : Option (List ℕ)) : Type 0 where
+pub record WroteGiven (output : Output) (before after : Disk) (old new : Option (List ℕ))
+    : Type 0 where
   pub given : List ℕ
   pub all : before.left ≡ given ++ after.left
   pub written : Adds (output.part (capture_of given).records) old new
 
 -- the bytes that were taken before a line could not be written
-pub record TookFew (output : Output) (before after : Disk) (old new : Option (List ℕ)) : Type 0 where
+pub record TookFew (output : Output) (before after : Disk) (old new : Option (List ℕ))
+    : Type 0 where
   pub taken : List ℕ
   pub all : before.left ≡ taken ++ after.left
   pub few : TakesFew output (capture_of before.left).records taken old new
 
 -- what goes out for the capture in the file that is open
-abbrev pub Covers : Output → Result (Unit {0}) Stop → Disk → Disk → Option (List ℕ) → Option (List ℕ) → Type 0
-Covers output (Ok x) before after old new = IsTrue before.told → ((capture_of before.left).fault ≡ None) × Adds (output_of output (capture_of before.left)) old new
-Covers output (Err (stop.Capture fault)) before after old new = IsTrue before.told → ((capture_of before.left).fault ≡ Some fault) × Adds (output_of output (capture_of before.left)) old new
-Covers output (Err stop.Read) before after old new = IsTrue before.told → WroteGiven output before after old new
-Covers output (Err stop.Write) before after old new = IsTrue before.told → AddsFront (output_of output (capture_of before.left)) old new × TookFew output before after old new
-Covers output (Err stop.Memory) before after old new = IsTrue before.told → AddsFront (output_of output (capture_of before.left)) old new
+abbrev pub Covers : Output → Result (Unit {0}) Stop → Disk → Disk
+    → Option (List ℕ) → Option (List ℕ) → Type 0
+Covers output (Ok x) before after old new =
+    IsTrue before.told
+    → ((capture_of before.left).fault ≡ None)
+    × Adds (output_of output (capture_of before.left)) old new
+Covers output (Err (stop.Capture fault)) before after old new =
+    IsTrue before.told
+    → ((capture_of before.left).fault ≡ Some fault)
+    × Adds (output_of output (capture_of before.left)) old new
+Covers output (Err stop.Read) before after old new =
+    IsTrue before.told → WroteGiven output before after old new
+Covers output (Err stop.Write) before after old new =
+    IsTrue before.told
+    → AddsFront (output_of output (capture_of before.left)) old new
+    × TookFew output before after old new
+Covers output (Err stop.Memory) before after old new =
+    IsTrue before.told → AddsFront (output_of output (capture_of before.left)) old new
 Covers output (Err stop.Usage) before after old new = ⊥
-Covers output (Err (stop.Script fault)) before after old new = ⊥
+Covers output (Err (stop.Script line cause)) before after old new = ⊥
 
 -- reading a script of these bytes
-abbrev pub ReadsText : Result Chosen Stop → List ℕ → Type 0
-ReadsText (Ok chosen) text = script_of text ≡ Ok chosen
-ReadsText (Err (stop.Script fault)) text = script_of text ≡ Err fault
+abbrev pub ReadsText : Result Contents Stop → List ℕ → Type 0
+ReadsText (Ok c) text = read_script text ≡ Ok c
+ReadsText (Err (stop.Script line cause)) text = read_script text ≡ Err (Bad line cause)
 ReadsText (Err stop.Memory) text = Unit {0}
 ReadsText (Err other) text = ⊥
 
 -- reading the script of this name
-abbrev pub ReadsScript : Result Chosen Stop → List ℕ → Disk → Disk → Type 0
-ReadsScript (Ok chosen) name before after = IsTrue before.told → script_of (before.contents name) ≡ Ok chosen
-ReadsScript (Err (stop.Script fault)) name before after = IsTrue before.told → script_of (before.contents name) ≡ Err fault
-ReadsScript (Err stop.Read) name before after = IsTrue before.told → (after.opened ≡ None) ⊎ ((after.opened ≡ Some name) × AreBytes (after.contents name))
+abbrev pub ReadsScript : Result Contents Stop → List ℕ → Disk → Disk → Type 0
+ReadsScript (Ok c) name before after =
+    IsTrue before.told → read_script (before.contents name) ≡ Ok c
+ReadsScript (Err (stop.Script line cause)) name before after =
+    IsTrue before.told → read_script (before.contents name) ≡ Err (Bad line cause)
+ReadsScript (Err stop.Read) name before after =
+    IsTrue before.told
+    → (after.opened ≡ None) ⊎ ((after.opened ≡ Some name) × AreBytes (after.contents name))
 ReadsScript (Err stop.Memory) name before after = Unit {0}
 ReadsScript (Err stop.Usage) name before after = ⊥
 ReadsScript (Err stop.Write) name before after = ⊥
 ReadsScript (Err (stop.Capture fault)) name before after = ⊥
 
 -- a run up to the text of its end, where the input is known
-abbrev pub Runs : Result (Unit {0}) Stop → Wanted → Option Form → Disk → Option (List ℕ) → Option (List ℕ) → Type 0
+abbrev pub Runs : Result (Unit {0}) Stop → Wanted → Option Form → Disk
+    → Option (List ℕ) → Option (List ℕ) → Type 0
 Runs (Err stop.Read) want form after old new = Adds (read_out form after) old new
-Runs (Err stop.Write) want form after old new = AddsFront (out_of want) old new × HasTaken want form after old new
+Runs (Err stop.Write) want form after old new =
+    AddsFront (out_of want) old new × HasTaken want form after old new
 Runs (Err stop.Memory) want form after old new = AddsFront (out_of want) old new
 Runs (Err why) want form after old new = (stop_of want ≡ Some why) × Adds (out_of want) old new
 Runs (Ok x) want form after old new = (stop_of want ≡ None) × Adds (out_of want) old new
@@ -109,9 +133,13 @@ IsUsage result form = form ≢ None
 
 -- writing a text for a status
 abbrev pub Told : Status → Status → List ℕ → Option (List ℕ) → Option (List ℕ) → ℕ → ℕ → Type 0
-Told result wish text old new e e' = ((result ≡ wish) × Adds text old new × (e' ≡ e)) ⊎ ((result ≡ status.Write) × AddsFront text old new × (e < e'))
+Told result wish text old new e e' =
+    ((result ≡ wish) × Adds text old new × (e' ≡ e))
+    ⊎ ((result ≡ status.Write) × AddsFront text old new × (e < e'))
 
 -- reporting why a run stopped
 abbrev pub Reports : Status → Stop → Option (List ℕ) → Option (List ℕ) → ℕ → ℕ → Type 0
 Reports result stop.Write old new e e' = (result ≡ status.Write) × Adds [] old new × (e' ≡ e)
-Reports result why old new e e' = Told result (status_of_stop why) (text_of why) old new e e' ⊎ Told result status.Memory memory_text old new e e'
+Reports result why old new e e' =
+    Told result (status_of_stop why) (text_of why) old new e e'
+    ⊎ Told result status.Memory memory_text old new e e'

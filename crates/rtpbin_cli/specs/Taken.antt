@@ -17,7 +17,9 @@ size_of r = 16 + length r.bytes
 abbrev pub end_of : List Record → ℕ
 end_of records = 24 + sum_by size_of records
 
--- If what goes out for the first n records was not all written, what was taken passes their end by what the buffer in front of the file holds, at most.
+-- If what goes out for the first n records was not all written, what was taken passes their end by
+-- what the buffer in front of the file holds, at most.
 abbrev pub TakesFew : Output → List Record → List ℕ → Option (List ℕ) → Option (List ℕ) → Type 0
 TakesFew output records taken old new =
-    (n : ℕ) → ¬ (AddsMore (output.part (take n records)) old new) → length taken ≤ end_of (take n records) + PULL_BYTES
+    (n : ℕ) → ¬ (AddsMore (output.part (take n records)) old new)
+    → length taken ≤ end_of (take n records) + PULL_BYTES

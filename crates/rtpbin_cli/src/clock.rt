@@ -3,8 +3,8 @@ ghost use Rattle.std.specs.Prelude.{◌≡◌, ◌<◌, ◌≤◌, ◌^◌, ◌+
 ghost use Rattle.pcap_file.specs.Capture.{Record};
 ghost use Rattle.rtpbin_cli.specs.Clock.{HasPassed};
 
-/// The stamp of the first record, and the greatest time so far: time 0 is that stamp, and a record that
-/// is stamped earlier than one before it comes at the greatest time so far.
+/// The stamp of the first record, and the greatest time so far: time 0 is that stamp, and a record
+/// that is stamped earlier than one before it comes at the greatest time so far.
 #[derive(Clone, Copy, Debug)]
 pub struct RecordClock {
     pub first: Option<u64>,
@@ -23,7 +23,8 @@ pub fn pass(clock: RecordClock, stamp: u64) -> RecordClock
     requires time { clock.time < 2 ^ 63 }
     ensures onward { clock.time ≤ result.time }
     ensures small { result.time < 2 ^ 63 }
-    ensures passed { (seen : List Record) (r : Record) → r.stamp ≡ stamp → HasPassed clock seen → HasPassed result (seen ++ r ∷ []) }
+    ensures passed { (seen : List Record) (r : Record)
+        → r.stamp ≡ stamp → HasPassed clock seen → HasPassed result (seen ++ r ∷ []) }
 {
     let first = clock.first.unwrap_or(stamp);
     RecordClock {

@@ -6,7 +6,10 @@ ghost use Rattle.rtcp_wire.specs.Written.{kind_byte};
 ghost use Rattle.rtp_wire.specs.Packet.{first_fault};
 ghost use Rattle.rtp_io.specs.Outside.{SameDisk};
 ghost use Rattle.log_text.specs.Dumped.{dump_text};
-ghost use Rattle.rtpbin_cli.specs.Dump.{dump_output, facts_of as facts_in, is_rtcp as is_rtcp_payload, line_of as line_for, payload_line as line_of_payload, rtcp_line as line_of_rtcp, rtp_line as line_of_rtp};
+ghost use Rattle.rtpbin_cli.specs.Dump.{dump_output, facts_of as facts_in};
+ghost use Rattle.rtpbin_cli.specs.Dump.{is_rtcp as is_rtcp_payload, line_of as line_for};
+ghost use Rattle.rtpbin_cli.specs.Dump.{payload_line as line_of_payload};
+ghost use Rattle.rtpbin_cli.specs.Dump.{rtcp_line as line_of_rtcp, rtp_line as line_of_rtp};
 ghost use Rattle.rtpbin_cli.specs.Steps.{Covers, HasStopCause, Prints};
 
 use crate::clock::{START, pass};
@@ -25,9 +28,12 @@ pub fn dump_open<F: Files, O: Sink>(alloc: Global, files: &mut F, out: &mut O) -
     requires files { F.faults files.old < 2 ^ 64 - 1 }
     requires out { O.faults out.old < 2 ^ 64 - 1 }
     ensures same { SameDisk (F.disk files.old) (F.disk files.new) }
-    ensures opened { IsTrue (F.disk files.old).told → (F.disk files.new).opened ≡ (F.disk files.old).opened }
-    ensures covers { Covers dump_output result (F.disk files.old) (F.disk files.new) (O.written out.old) (O.written out.new) }
-    ensures cause { HasStopCause result (F.faults files.old) (F.faults files.new) (O.faults out.old) (O.faults out.new) }
+    ensures opened { IsTrue (F.disk files.old).told
+        → (F.disk files.new).opened ≡ (F.disk files.old).opened }
+    ensures covers { Covers dump_output result (F.disk files.old) (F.disk files.new)
+        (O.written out.old) (O.written out.new) }
+    ensures cause { HasStopCause result (F.faults files.old) (F.faults files.new)
+        (O.faults out.old) (O.faults out.new) }
 {
     let mut pull = match Pull::new(alloc) {
         Ok(pull) => pull,
@@ -68,7 +74,8 @@ fn line_of(
     link: u16,
     rec: &PcapRecord,
 ) -> Result<DumpLine, OutOfMemory>
-    ensures { IfOk result (λ line. line ≡ line_for number (record { time = time; captured = record_view link rec.now })) }
+    ensures { IfOk result (λ line. line
+        ≡ line_for number (record { time = time; captured = record_view link rec.now })) }
 {
     match datagram(link, rec) {
         Ok(datagram) => {
@@ -135,7 +142,8 @@ fn rtcp_line(
     ports: Ports,
     payload: &[u8],
 ) -> Result<DumpLine, OutOfMemory>
-    ensures { IfOk result (λ line. line ≡ line_of_rtcp number time ports (compound_of payload.now)) }
+    ensures { IfOk result (λ line. line
+        ≡ line_of_rtcp number time ports (compound_of payload.now)) }
 {
     match read_compound(alloc, payload) {
         Ok(packets) => Ok(DumpLine::Rtcp {
@@ -201,7 +209,8 @@ fn facts_of(view: &RtpView<'_>) -> RtpFacts
 
 fn print<O: Sink>(alloc: Global, line: &DumpLine, out: &mut O) -> Result<(), Stop>
     requires { O.faults out.old < 2 ^ 64 - 1 }
-    ensures { Prints (dump_text line.now) result (O.written out.old) (O.written out.new) (O.faults out.old) (O.faults out.new) }
+    ensures { Prints (dump_text line.now) result
+        (O.written out.old) (O.written out.new) (O.faults out.old) (O.faults out.new) }
 {
     let piece = match dump_line(alloc, line) {
         Ok(piece) => piece,

@@ -1,26 +1,29 @@
 //! A bin whose lines are written as they come.
-ghost use Rattle.std.specs.Prelude.{◌≡◌, ◌<◌, ◌≤◌, ◌+◌, ◌-◌, ◌^◌, ◌∷◌, [], length, map, OnOk};
-ghost use Rattle.log_model.specs.Captured.{AreItems, IsItem, IsProfile};
-ghost use Rattle.log_model.specs.Inputs.{OfCapture, OfScript};
+ghost use Rattle.std.specs.Prelude.{◌≡◌, ◌<◌, ◌≤◌, ◌+◌, ◌-◌, ◌^◌, ◌∷◌, [], map, OnOk, IfOk, false};
+ghost use Rattle.replay_model.specs.Fitting.{IsItem};
+ghost use Rattle.replay_model.specs.Inputs.{OfCapture, OfScript};
 ghost use Rattle.log_text.specs.Text.{line_text as text_of};
-ghost use Rattle.bin_core.specs.Words.{records_of, time_of};
-ghost use Rattle.bin_core.specs.Bins.{timed, BinStands};
+ghost use Rattle.bin_core.specs.Words.{records_of, time_of, is_finished};
+ghost use Rattle.bin_core.specs.Bins.{timed};
 ghost use Rattle.rtpbin_cli.specs.Commands.{texts_of};
-ghost use Rattle.rtpbin_cli.specs.Plays.{LogGoesOn, PlaysMore, PlaysLast, time_behind};
+ghost use Rattle.rtpbin_cli.specs.Plays.{AreItems, IsFresh, IsReady, time_behind};
+ghost use Rattle.rtpbin_cli.specs.Plays.{PlaysMore, PlaysLast, PlaysUpTo};
 ghost use Rattle.rtpbin_cli.specs.Steps.{HasWriteCause, Prints};
 ghost use Rattle.rtpbin_cli.specs.Taken.{AddsMore};
 
 use crate::stop::Stop;
 use bin_core::{Bin, BinLine, Lines};
-use log_model::{Item, Profile};
 use log_text::line as line_text;
 use pcap_file::PcapRecord;
+use replay_model::laws::goes_on;
 use rtp_io::{Failed, Sink, write_piece};
 use rtp_units::OutOfMemory;
+use script_lang::{Item, Script};
 use std::alloc::Global;
 
-/// A bin, the lines of it that are to be written next, and whether these have the bytes of packets. Between
-/// calls no lines are left. Each line is one piece to the sink.
+/// A bin, the lines of it that are to be written next, and whether these have the bytes of packets.
+/// Between calls no lines are left. Each line is one piece to the sink, and is written before the
+/// bin goes on to the next thing that is due: so few lines are held at a time.
 #[derive(Drop)]
 pub struct Player {
     pub bin: Bin,
@@ -30,18 +33,16 @@ pub struct Player {
 
 impl Player {
     /// A player before any record and item.
-    pub fn new(alloc: Global, profile: &Profile, hex: bool) -> Player
-        requires { IsProfile profile.now }
-        ensures records { records_of result.bin ≡ 0 }
-        ensures time { time_of result.bin ≡ 0 }
-        ensures none { result.lines ≡ [] }
-        ensures hex { result.hex ≡ hex }
-        ensures stands { BinStands profile.now result.bin [] }
+    pub fn new(alloc: Global, script: &Script, hex: bool) -> Result<Player, OutOfMemory>
+        ensures fresh { IfOk result (λ player. IsFresh script.now hex player) }
     {
-        Player {
-            bin: Bin::new(alloc, profile),
-            lines: Lines::new(alloc),
-            hex,
+        match Bin::new(alloc, script) {
+            Ok(bin) => Ok(Player {
+                bin,
+                lines: Lines::new(alloc),
+                hex,
+            }),
+            Err(OutOfMemory) => Err(OutOfMemory),
         }
     }
 
@@ -53,16 +54,20 @@ impl Player {
         out: &mut O,
     ) -> Result<(), Stop>
         requires items { AreItems (time_of self.old.bin) items.now }
-        requires none { self.old.lines ≡ [] }
+        requires ready { IsReady self.old }
         requires out { O.faults out.old < 2 ^ 64 - 1 }
         ensures hex { self.new.hex ≡ self.old.hex }
         ensures records { records_of self.new.bin ≡ records_of self.old.bin }
-        ensures time { OnOk result (time_of self.new.bin ≡ time_behind (time_of self.old.bin) items.now) }
-        ensures none { OnOk result (self.new.lines ≡ []) }
-        ensures plays { LogGoesOn → PlaysMore result self.old self.new (map OfScript items.now) (O.written out.old) (O.written out.new) }
+        ensures time { OnOk result
+            (time_of self.new.bin ≡ time_behind (time_of self.old.bin) items.now) }
+        ensures ready { OnOk result (IsReady self.new) }
+        ensures plays { PlaysMore result self.old self.new (map OfScript items.now)
+            (O.written out.old) (O.written out.new) }
         ensures more { AddsMore [] (O.written out.old) (O.written out.new) }
         ensures cause { HasWriteCause result (O.faults out.old) (O.faults out.new) }
     {
+        // A law for the proof; the call does nothing.
+        goes_on();
         for item in items {
             match self.give_item(alloc, item, out) {
                 Ok(()) => {}
@@ -75,17 +80,22 @@ impl Player {
     fn give_item<O: Sink>(&mut self, alloc: Global, item: &Item, out: &mut O) -> Result<(), Stop>
         requires item { IsItem item.now }
         requires onward { time_of self.old.bin ≤ item.now.time }
-        requires none { self.old.lines ≡ [] }
+        requires ready { IsReady self.old }
         requires out { O.faults out.old < 2 ^ 64 - 1 }
         ensures hex { self.new.hex ≡ self.old.hex }
         ensures records { records_of self.new.bin ≡ records_of self.old.bin }
-        ensures time { time_of self.new.bin ≡ item.now.time }
-        ensures none { OnOk result (self.new.lines ≡ []) }
-        ensures plays { LogGoesOn → PlaysMore result self.old self.new (OfScript item.now ∷ []) (O.written out.old) (O.written out.new) }
+        ensures time { OnOk result (time_of self.new.bin ≡ item.now.time) }
+        ensures ready { OnOk result (IsReady self.new) }
+        ensures plays { PlaysMore result self.old self.new (OfScript item.now ∷ [])
+            (O.written out.old) (O.written out.new) }
         ensures more { AddsMore [] (O.written out.old) (O.written out.new) }
         ensures cause { HasWriteCause result (O.faults out.old) (O.faults out.new) }
     {
-        match self.bin.control(item, &mut self.lines) {
+        match self.advance(alloc, item.time, out) {
+            Ok(()) => {}
+            Err(stop) => return Err(stop),
+        }
+        match self.bin.control(alloc, item, &mut self.lines) {
             Ok(()) => self.write_lines(alloc, out),
             Err(OutOfMemory) => Err(Stop::Memory),
         }
@@ -103,16 +113,21 @@ impl Player {
         requires few { records_of self.old.bin < 100000000 }
         requires onward { time_of self.old.bin ≤ time }
         requires small { time < 2 ^ 63 }
-        requires none { self.old.lines ≡ [] }
+        requires ready { IsReady self.old }
         requires out { O.faults out.old < 2 ^ 64 - 1 }
         ensures hex { self.new.hex ≡ self.old.hex }
-        ensures records { records_of self.new.bin ≡ records_of self.old.bin + 1 }
-        ensures time { time_of self.new.bin ≡ time }
-        ensures none { OnOk result (self.new.lines ≡ []) }
-        ensures plays { LogGoesOn → PlaysMore result self.old self.new (OfCapture (timed time link rec.now) ∷ []) (O.written out.old) (O.written out.new) }
+        ensures records { OnOk result (records_of self.new.bin ≡ records_of self.old.bin + 1) }
+        ensures time { OnOk result (time_of self.new.bin ≡ time) }
+        ensures ready { OnOk result (IsReady self.new) }
+        ensures plays { PlaysMore result self.old self.new
+            (OfCapture (timed time link rec.now) ∷ []) (O.written out.old) (O.written out.new) }
         ensures more { AddsMore [] (O.written out.old) (O.written out.new) }
         ensures cause { HasWriteCause result (O.faults out.old) (O.faults out.new) }
     {
+        match self.advance(alloc, time, out) {
+            Ok(()) => {}
+            Err(stop) => return Err(stop),
+        }
         let n = self.bin.records() + 1;
         match self
             .bin
@@ -131,19 +146,53 @@ impl Player {
         out: &mut O,
     ) -> Result<(), Stop>
         requires items { AreItems (time_of self.old.bin) items.now }
-        requires none { self.old.lines ≡ [] }
+        requires ready { IsReady self.old }
         requires out { O.faults out.old < 2 ^ 64 - 1 }
-        ensures plays { LogGoesOn → PlaysLast result self.old (map OfScript items.now) (O.written out.old) (O.written out.new) }
+        ensures plays { PlaysLast result self.old (map OfScript items.now)
+            (O.written out.old) (O.written out.new) }
         ensures more { AddsMore [] (O.written out.old) (O.written out.new) }
         ensures cause { HasWriteCause result (O.faults out.old) (O.faults out.new) }
     {
+        // A law for the proof; the call does nothing.
+        goes_on();
         match self.give_items(alloc, items, out) {
             Ok(()) => {}
             Err(stop) => return Err(stop),
         }
-        match self.bin.finish(&mut self.lines) {
+        match self.bin.finish(alloc, &mut self.lines) {
             Ok(()) => self.write_lines(alloc, out),
             Err(OutOfMemory) => Err(Stop::Memory),
+        }
+    }
+
+    // Does what is due up to this time, one thing after the other, and writes the lines of each.
+    fn advance<O: Sink>(&mut self, alloc: Global, time: u64, out: &mut O) -> Result<(), Stop>
+        requires onward { time_of self.old.bin ≤ time }
+        requires small { time < 2 ^ 63 }
+        requires ready { IsReady self.old }
+        requires out { O.faults out.old < 2 ^ 64 - 1 }
+        ensures hex { self.new.hex ≡ self.old.hex }
+        ensures records { records_of self.new.bin ≡ records_of self.old.bin }
+        ensures running { is_finished self.new.bin ≡ false }
+        ensures time { OnOk result (time_of self.new.bin ≡ time) }
+        ensures none { OnOk result (self.new.lines ≡ []) }
+        ensures plays { PlaysUpTo result time self.old self.new
+            (O.written out.old) (O.written out.new) }
+        ensures more { AddsMore [] (O.written out.old) (O.written out.new) }
+        ensures cause { HasWriteCause result (O.faults out.old) (O.faults out.new) }
+    {
+        'due: loop {
+            let more = match self.bin.advance(alloc, time, &mut self.lines) {
+                Ok(more) => more,
+                Err(OutOfMemory) => return Err(Stop::Memory),
+            };
+            match self.write_lines(alloc, out) {
+                Ok(()) => {}
+                Err(stop) => return Err(stop),
+            }
+            if !more {
+                return Ok(());
+            }
         }
     }
 
@@ -153,7 +202,8 @@ impl Player {
         ensures bin { self.new.bin ≡ self.old.bin }
         ensures hex { self.new.hex ≡ self.old.hex }
         ensures none { OnOk result (self.new.lines ≡ []) }
-        ensures prints { Prints (texts_of self.old.hex self.old.lines) result (O.written out.old) (O.written out.new) (O.faults out.old) (O.faults out.new) }
+        ensures prints { Prints (texts_of self.old.hex self.old.lines) result
+            (O.written out.old) (O.written out.new) (O.faults out.old) (O.faults out.new) }
     {
         match tell(alloc, &self.lines, self.hex, out) {
             Ok(()) => {
@@ -168,7 +218,8 @@ impl Player {
 // Writes these lines.
 fn tell<O: Sink>(alloc: Global, lines: &Lines, hex: bool, out: &mut O) -> Result<(), Stop>
     requires { O.faults out.old < 2 ^ 64 - 1 }
-    ensures { Prints (texts_of hex lines.now) result (O.written out.old) (O.written out.new) (O.faults out.old) (O.faults out.new) }
+    ensures { Prints (texts_of hex lines.now) result
+        (O.written out.old) (O.written out.new) (O.faults out.old) (O.faults out.new) }
 {
     for line in lines.lines() {
         match print(alloc, line, hex, out) {
@@ -181,7 +232,8 @@ fn tell<O: Sink>(alloc: Global, lines: &Lines, hex: bool, out: &mut O) -> Result
 
 fn print<O: Sink>(alloc: Global, line: &BinLine, hex: bool, out: &mut O) -> Result<(), Stop>
     requires { O.faults out.old < 2 ^ 64 - 1 }
-    ensures { Prints (text_of hex line.now) result (O.written out.old) (O.written out.new) (O.faults out.old) (O.faults out.new) }
+    ensures { Prints (text_of hex line.now) result
+        (O.written out.old) (O.written out.new) (O.faults out.old) (O.faults out.new) }
 {
     let piece = match line_text(alloc, line, hex) {
         Ok(piece) => piece,

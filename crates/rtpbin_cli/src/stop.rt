@@ -1,21 +1,38 @@
 //! Why a run stops, with its text.
 ghost use Rattle.std.specs.Prelude.{◌≡◌, Some};
-ghost use Rattle.rtpbin_cli.specs.Outcome.{text_of, capture_text, cause_text, status_of_stop};
+ghost use Rattle.rtpbin_cli.specs.Outcome.{text_of, capture_text, status_of_stop, stop_of_script};
 ghost use Rattle.rtpbin_cli.specs.Steps.{stop_of_fault};
 
-use crate::script::{ScriptCause, ScriptFault};
 use crate::status::Status;
 use pcap_file::CaptureFault;
+use script_lang::{ScriptCause, ScriptFault};
 use std::fmt;
 
 #[derive(Clone, Copy, Debug, PartialEq, Eq)]
 pub enum Stop {
+    /// The words are of no form.
     Usage,
-    Script(ScriptFault),
+    /// The first bad line of the script, from 1, and what it has against it. Line 0 stands for the
+    /// whole text.
+    Script { line: u32, cause: ScriptCause },
+    /// A file could not be opened or read.
     Read,
+    /// The capture's fault.
     Capture(CaptureFault),
+    /// A line could not be written.
     Write,
+    /// Want of memory.
     Memory,
+}
+
+/// What a fault of the script ends a run with.
+pub fn of_script(fault: ScriptFault) -> Stop
+    ensures { result ≡ stop_of_script fault }
+{
+    match fault {
+        ScriptFault::Bad { line, cause } => Stop::Script { line, cause },
+        ScriptFault::OutOfMemory => Stop::Memory,
+    }
 }
 
 /// What a fault of the capture ends a run with.
@@ -35,28 +52,11 @@ impl Stop {
     {
         match self {
             Stop::Usage => Status::Usage,
-            Stop::Script(_) => Status::Script,
+            Stop::Script { .. } => Status::Script,
             Stop::Read => Status::Read,
             Stop::Capture(_) => Status::Capture,
             Stop::Write => Status::Write,
             Stop::Memory => Status::Memory,
-        }
-    }
-}
-
-#[derive(Drop)]
-struct CauseWord(ScriptCause);
-
-impl fmt::Display for CauseWord {
-    ghost output = { λ word. Some (cause_text word.0) };
-
-    fn fmt<W: fmt::Write>(&self, f: &mut fmt::Formatter<W>) -> fmt::Result {
-        match self.0 {
-            ScriptCause::Language(cause) => {
-                let word = cause.word();
-                write!(f, "{word}")
-            }
-            ScriptCause::Unbuilt => write!(f, "unbuilt"),
         }
     }
 }
@@ -81,12 +81,13 @@ impl fmt::Display for Stop {
         match self {
             Stop::Usage => write!(
                 f,
-                "rtpbin: usage: replay [-x] CAPTURE SCRIPT | dump CAPTURE | rtxsend CAPTURE SCRIPT | gen NUMBER COUNT | live [-x] CAPTURE SCRIPT\n"
+                "rtpbin: usage: replay [-x] CAPTURE SCRIPT | dump CAPTURE | \
+                 rtxsend CAPTURE SCRIPT | gen NUMBER COUNT | live [-x] CAPTURE SCRIPT | \
+                 sdp CAPTURE SDP TIMES | depay FORMAT PT CAPTURE SCRIPT\n"
             ),
-            Stop::Script(fault) => {
-                let line = fault.line;
-                let cause = CauseWord(fault.cause);
-                write!(f, "rtpbin: script line {line}: {cause}\n")
+            Stop::Script { line, cause } => {
+                let word = cause.word();
+                write!(f, "rtpbin: script line {line}: {word}\n")
             }
             Stop::Read => write!(f, "rtpbin: read failed\n"),
             Stop::Capture(fault) => {

@@ -15,13 +15,15 @@ const CAPTURE_HEADER: [u8; 24] = [
     0xd4, 0xc3, 0xb2, 0xa1, 2, 0, 4, 0, 0, 0, 0, 0, 0, 0, 0, 0, 0, 0, 4, 0, 1, 0, 0, 0,
 ];
 
-// Ethernet, IPv4 from 10.0.0.1 to 10.0.0.2, UDP from port 40000 to port 5004, for a payload of 16 bytes.
+// Ethernet, IPv4 from 10.0.0.1 to 10.0.0.2, UDP from port 40000 to port 5004, for a payload of 16
+// bytes.
 const FRAME_HEADER: [u8; 42] = [
     2, 0, 0, 0, 0, 2, 2, 0, 0, 0, 0, 1, 8, 0, 0x45, 0, 0, 44, 0, 0, 0, 0, 64, 17, 0, 0, 10, 0, 0,
     1, 10, 0, 0, 2, 0x9c, 0x40, 0x13, 0x8c, 0, 24, 0, 0,
 ];
 
-// A packet of source 11223344: its sequence number, when it comes in milliseconds, and its timestamp.
+// A packet of source 11223344: its sequence number, when it comes in milliseconds, and its
+// timestamp.
 type Sent = (u16, u32, u32);
 
 fn add_record(bytes: &mut Vec<u8>, (seq, ms, timestamp): Sent) -> Result<(), OutOfMemory> {
@@ -49,15 +51,30 @@ fn capture_of(alloc: Global, sent: &[Sent]) -> Result<Vec<u8>, OutOfMemory> {
 const CASES: [(&[Sent], &str); 7] = [
     (
         &[(1, 0, 0), (2, 20, 1800), (3, 40, 3600)],
-        "100000000 out 0 65537 0 96 0 4\n100000000 out 0 65538 20000000 96 0 4\n100000000 out 0 65539 40000000 96 0 4\n100000000 end 0\ndone 3 1 3 0 0\n",
+        "100000000 out 0 65537 0 96 0 4\n\
+         100000000 out 0 65538 20000000 96 0 4\n\
+         100000000 out 0 65539 40000000 96 0 4\n\
+         100000000 end 0\n\
+         done 3 1 3 0 0\n",
     ),
     (
         &[(1, 0, 0), (2, 20, 1800), (4, 60, 5400)],
-        "100000000 out 0 65537 0 96 0 4\n100000000 out 0 65538 20000000 96 0 4\n140000000 lost 0 65539 1 40000000 20000000\n140000000 out 0 65540 60000000 96 0 4\n140000000 end 0\ndone 3 1 3 1 0\n",
+        "100000000 out 0 65537 0 96 0 4\n\
+         100000000 out 0 65538 20000000 96 0 4\n\
+         140000000 lost 0 65539 1 40000000 20000000\n\
+         140000000 out 0 65540 60000000 96 0 4\n\
+         140000000 end 0\n\
+         done 3 1 3 1 0\n",
     ),
     (
         &[(1, 0, 0), (2, 20, 1800), (4, 60, 5400), (3, 140, 3600)],
-        "100000000 out 0 65537 0 96 0 4\n100000000 out 0 65538 20000000 96 0 4\n140000000 lost 0 65539 1 40000000 20000000\n140000000 out 0 65540 60000000 96 0 4\n140000000 refuse 0 3 o late\n140000000 end 0\ndone 4 1 3 1 1\n",
+        "100000000 out 0 65537 0 96 0 4\n\
+         100000000 out 0 65538 20000000 96 0 4\n\
+         140000000 lost 0 65539 1 40000000 20000000\n\
+         140000000 out 0 65540 60000000 96 0 4\n\
+         140000000 refuse 0 3 o late\n\
+         140000000 end 0\n\
+         done 4 1 3 1 1\n",
     ),
     (
         &[
@@ -66,15 +83,26 @@ const CASES: [(&[Sent], &str); 7] = [
             (0, 40, 3600),
             (1, 60, 5400),
         ],
-        "100000000 out 0 131070 0 96 0 4\n100000000 out 0 131071 20000000 96 0 4\n100000000 out 0 131072 40000000 96 0 4\n100000000 out 0 131073 60000000 96 0 4\n100000000 end 0\ndone 4 1 4 0 0\n",
+        "100000000 out 0 131070 0 96 0 4\n\
+         100000000 out 0 131071 20000000 96 0 4\n\
+         100000000 out 0 131072 40000000 96 0 4\n\
+         100000000 out 0 131073 60000000 96 0 4\n\
+         100000000 end 0\n\
+         done 4 1 4 0 0\n",
     ),
     (
         &[(2, 0, 1800), (1, 10, 0)],
-        "100000000 out 0 65537 0 96 0 4\n100000000 out 0 65538 0 96 0 4\n100000000 end 0\ndone 2 1 2 0 0\n",
+        "100000000 out 0 65537 0 96 0 4\n\
+         100000000 out 0 65538 0 96 0 4\n\
+         100000000 end 0\n\
+         done 2 1 2 0 0\n",
     ),
     (
         &[(5, 0, 0), (5, 5, 0)],
-        "5000000 refuse 0 5 o duplicate\n100000000 out 0 65541 0 96 0 4\n100000000 end 0\ndone 2 1 1 0 1\n",
+        "5000000 refuse 0 5 o duplicate\n\
+         100000000 out 0 65541 0 96 0 4\n\
+         100000000 end 0\n\
+         done 2 1 1 0 1\n",
     ),
     (&[], "done 0 0 0 0 0\n"),
 ];
@@ -105,12 +133,63 @@ fn replays(rt: HostRuntime) -> Result<(), Fail> {
     Ok(())
 }
 
-const USAGE: &[u8] =
-    b"rtpbin: usage: replay [-x] CAPTURE SCRIPT | dump CAPTURE | rtxsend CAPTURE SCRIPT | gen NUMBER COUNT | live [-x] CAPTURE SCRIPT\n";
+const TWO_SESSIONS: &[u8] = b"session 0 5004 5005\n\
+      session 1 5006 5007\n\
+      pt 0 96 90000\n\
+      pt 1 96 8000\n\
+      set latency 100\n\
+      set probation 0\n\
+      set mode none\n\
+      at 30 flush-start 1\n\
+      at 50 flush-stop 1\n";
 
-// How many words of `replay c s` are given, how many bytes of the capture and the script are there, the
-// call on the files and the write that fail (0 for none), and what comes: the status, how many bytes are
-// written, and the error text. A packet, and what is written for it, in order.
+const TWO_SESSIONS_LOG: &[u8] = b"0 pt 0 96 90000\n\
+      0 lane 0 0 11223344\n\
+      10000000 pt 1 96 8000\n\
+      10000000 lane 1 1 11223344\n\
+      30000000 flush 1 1\n\
+      50000000 flushed 1\n\
+      100000000 out 0 65537 0 96 0 4\n\
+      100000000 out 0 65538 20000000 96 0 4\n\
+      100000000 end 0\n\
+      100000000 end 1\n\
+      done 3 2 2 0 0\n";
+
+// The last byte of the second packet's port.
+const SECOND_PORT: usize = 24 + 74 + 16 + 37;
+
+// One source in two sessions has two lanes, and an item comes to the lanes of its session alone.
+#[test]
+fn two_sessions(rt: HostRuntime) -> Result<(), Fail> {
+    let alloc = rt.alloc();
+    let words = vec![in alloc;
+        String::from_str(alloc, "replay")?,
+        String::from_str(alloc, "c")?,
+        String::from_str(alloc, "s")?,
+    ]?;
+    let mut capture = capture_of(alloc, &[(1, 0, 0), (7, 10, 0), (2, 20, 1800)])?;
+    if let Some(port) = capture.get_mut(SECOND_PORT) {
+        *port = 0x8e;
+    }
+    let mut files = MemoryFiles::new(alloc)?;
+    files.add(alloc, "c", &capture)?;
+    files.add(alloc, "s", TWO_SESSIONS)?;
+    let mut out = MemorySink::with_room(alloc, 1000)?;
+    let mut err = MemorySink::with_room(alloc, 1000)?;
+    let status = run_tool(alloc, &words, &mut files, &mut out, &mut err);
+    assert_eq!(rt; status, Status::Done);
+    assert_eq!(rt; out.bytes(), TWO_SESSIONS_LOG);
+    assert_eq!(rt; err.bytes().len(), 0);
+    Ok(())
+}
+
+const USAGE: &[u8] = b"rtpbin: usage: replay [-x] CAPTURE SCRIPT | dump CAPTURE | \
+      rtxsend CAPTURE SCRIPT | gen NUMBER COUNT | live [-x] CAPTURE SCRIPT | \
+      sdp CAPTURE SDP TIMES | depay FORMAT PT CAPTURE SCRIPT\n";
+
+// How many words of `replay c s` are given, how many bytes of the capture and the script are there,
+// the call on the files and the write that fail (0 for none), and what comes: the status, how many
+// bytes are written, and the error text. With 50 bytes the script keeps its probation of 2.
 const ENDS: [(usize, usize, usize, u64, u64, Status, usize, &[u8]); 10] = [
     (3, 98, 80, 0, 0, Status::Done, 98, b""),
     (2, 98, 80, 0, 0, Status::Usage, 0, USAGE),
@@ -124,16 +203,7 @@ const ENDS: [(usize, usize, usize, u64, u64, Status, usize, &[u8]); 10] = [
         0,
         b"rtpbin: script line 5: word\n",
     ),
-    (
-        3,
-        98,
-        50,
-        0,
-        0,
-        Status::Script,
-        0,
-        b"rtpbin: script line 0: unbuilt\n",
-    ),
+    (3, 98, 50, 0, 0, Status::Done, 35, b""),
     (3, 98, 80, 1, 0, Status::Read, 0, b"rtpbin: read failed\n"),
     (3, 98, 80, 6, 0, Status::Read, 36, b"rtpbin: read failed\n"),
     (
@@ -190,8 +260,13 @@ fn ends(rt: HostRuntime) -> Result<(), Fail> {
 
 const STEADY: [Sent; 3] = [(1, 0, 0), (2, 20, 1800), (3, 40, 3600)];
 
-const STEADY_LOG: &[u8] =
-    b"0 pt 0 96 90000\n0 lane 0 0 11223344\n100000000 out 0 65537 0 96 0 4\n100000000 out 0 65538 20000000 96 0 4\n100000000 out 0 65539 40000000 96 0 4\n100000000 end 0\ndone 3 1 3 0 0\n";
+const STEADY_LOG: &[u8] = b"0 pt 0 96 90000\n\
+      0 lane 0 0 11223344\n\
+      100000000 out 0 65537 0 96 0 4\n\
+      100000000 out 0 65538 20000000 96 0 4\n\
+      100000000 out 0 65539 40000000 96 0 4\n\
+      100000000 end 0\n\
+      done 3 1 3 0 0\n";
 
 // The write that fails, and how many bytes the lines before it have; no write is the eighth.
 const WRITES: [(u64, usize); 8] = [
@@ -205,8 +280,8 @@ const WRITES: [(u64, usize); 8] = [
     (8, 174),
 ];
 
-// A run of the steady packets in which a call on the files, a write, or neither fails, and a read or a
-// write moves at most `step` bytes: the status, and how much of the log is written.
+// A run of the steady packets in which a call on the files, a write, or neither fails, and a read
+// or a write moves at most `step` bytes: the status, and how much of the log is written.
 fn run_failing(
     alloc: Global,
     call: u64,

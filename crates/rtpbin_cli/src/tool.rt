@@ -1,23 +1,24 @@
 //! The top call.
-ghost use Rattle.std.specs.Prelude.{◌≡◌, ◌≢◌, ◌⊎◌, ◌<◌, ◌-◌, ◌^◌, ◌≤◌, None, Some, IsTrue, IfOk, length};
+ghost use Rattle.std.specs.Prelude.{◌≡◌, ◌≢◌, ◌⊎◌, ◌<◌, ◌-◌, ◌^◌, None, Some, IsTrue};
 ghost use Rattle.rtp_io.specs.Outside.{SameDisk};
 ghost use Rattle.rtpbin_cli.specs.Words.{form_of, texts, Replay};
-ghost use Rattle.rtpbin_cli.specs.Outcome.{HasErr, HasOut, HasSomeErr, HasTaken, HasStatusCause, IsAnswer, IsUsageOr, Knows, MayOpen, status_of, stop_of, wanted, wanted_of};
-ghost use Rattle.rtpbin_cli.specs.Steps.{HasStopCause, IsOfForm, IsUsage, ReadsScript, Reports, Runs, Told};
+ghost use Rattle.rtpbin_cli.specs.Outcome.{HasErr, HasOut, HasSomeErr, HasTaken, HasStatusCause};
+ghost use Rattle.rtpbin_cli.specs.Outcome.{IsAnswer, IsUsageOr, Knows, MayOpen};
+ghost use Rattle.rtpbin_cli.specs.Outcome.{status_of, stop_of, wanted, wanted_of};
+ghost use Rattle.rtpbin_cli.specs.Steps.{HasStopCause, IsOfForm, IsUsage, Reports, Runs, Told};
 
 use crate::dump::dump_open;
 use crate::replay::replay_open;
-use crate::script::{Setup, setup_in};
+use crate::script::read_script;
 use crate::status::Status;
 use crate::stop::Stop;
 use crate::words::{Asked, asked_by};
-use rtp_io::{Failed, Files, Sink, read_up_to, write_piece};
-use script_lang::MAX_SCRIPT;
+use rtp_io::{Failed, Files, Sink, write_piece};
 use script_lang::laws::begins_no_capture;
 use std::alloc::{AllocError, Global};
 
-/// Does what the words ask for, and answers how it ended. The text of a status other than `Done` and
-/// `Write` goes to `err`.
+/// Does what the words ask for, and answers how it ended. The text of a status other than `Done`
+/// and `Write` goes to `err`.
 pub fn run_tool<F: Files, O: Sink, E: Sink>(
     alloc: Global,
     words: &[String],
@@ -44,14 +45,14 @@ pub fn run_tool<F: Files, O: Sink, E: Sink>(
     ensures answer { Knows (form_of (texts words.now)) (F.disk files.old)
         → IsAnswer result (wanted (F.disk files.old).contents (form_of (texts words.now))) }
 
-    // What was added to the output: all that goes out for the capture, the part of it before a fault,
-    // or a front.
+    // What was added to the output: all that goes out for the capture, the part of it before a
+    // fault, or a front.
     ensures out { Knows (form_of (texts words.now)) (F.disk files.old)
         → HasOut result (wanted (F.disk files.old).contents (form_of (texts words.now)))
         (form_of (texts words.now)) (F.disk files.new) (O.written out.old) (O.written out.new) }
 
-    // Where a write of it failed, what was taken from the capture passes the end of the first record
-    // whose lines are incomplete by `PULL_BYTES` at most.
+    // Where a write of it failed, what was taken from the capture passes the end of the first
+    // record whose lines are incomplete by `PULL_BYTES` at most.
     ensures few { Knows (form_of (texts words.now)) (F.disk files.old)
         → O.faults out.old < O.faults out.new
         → HasTaken (wanted (F.disk files.old).contents (form_of (texts words.now)))
@@ -63,7 +64,8 @@ pub fn run_tool<F: Files, O: Sink, E: Sink>(
         (F.faults files.old) (F.faults files.new) (O.faults out.old) (O.faults out.new)
         (E.written err.old) (E.written err.new) }
 
-    // Of files that tell nothing too: words of no form, exactly, unless memory or the error text fails.
+    // Of files that tell nothing too: words of no form, exactly, unless memory or the error text
+    // fails.
     ensures usage { result ≡ Status.Usage → form_of (texts words.now) ≡ None }
     ensures no_form { form_of (texts words.now) ≡ None → IsUsageOr result }
 
@@ -170,40 +172,12 @@ fn replay<F: Files, O: Sink>(
 {
     // A law for the proof: a script begins no capture. The call does nothing.
     begins_no_capture();
-    let setup = match read_script(alloc, files, script) {
-        Ok(setup) => setup,
+    let script = match read_script(alloc, files, script) {
+        Ok(script) => script,
         Err(stop) => return Err(stop),
     };
     match files.open_file(capture) {
-        Ok(()) => replay_open(alloc, &setup, hex, files, out),
+        Ok(()) => replay_open(alloc, &script, hex, files, out),
         Err(Failed) => Err(Stop::Read),
     }
-}
-
-// Reads the script, up to one byte more than it may have.
-fn read_script<F: Files>(alloc: Global, files: &mut F, name: &str) -> Result<Setup, Stop>
-    requires may_open { IsTrue ((F.disk files.old).may_open name.now) }
-    requires countable { F.faults files.old < 2 ^ 64 - 1 }
-    ensures same { SameDisk (F.disk files.old) (F.disk files.new) }
-    ensures after { ReadsScript result name.now (F.disk files.old) (F.disk files.new) }
-    ensures cause { HasStopCause result (F.faults files.old) (F.faults files.new) 0 0 }
-{
-    match files.open_file(name) {
-        Ok(()) => {}
-        Err(Failed) => return Err(Stop::Read),
-    }
-    let mut text = match zeros(alloc, MAX_SCRIPT + 1) {
-        Ok(text) => text,
-        Err(AllocError) => return Err(Stop::Memory),
-    };
-    match read_up_to(files, &mut text) {
-        Ok(size) => setup_in(alloc, &text[..size]),
-        Err(Failed) => Err(Stop::Read),
-    }
-}
-
-fn zeros(alloc: Global, size: usize) -> Result<Vec<u8>, AllocError>
-    ensures { IfOk result (λ zeros. length zeros.items ≡ size) }
-{
-    vec![in alloc; 0; size]
 }

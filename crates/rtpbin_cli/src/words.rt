@@ -17,8 +17,8 @@ pub enum Asked<'a> {
     },
 }
 
-/// What these words ask for, where they have a form: `replay [-x] CAPTURE SCRIPT` or `dump CAPTURE`. The
-/// count of words decides, and at most one of the names is standard input.
+/// What these words ask for, where they have a form: `replay [-x] CAPTURE SCRIPT` or
+/// `dump CAPTURE`. The count of words decides, and at most one of the names is standard input.
 pub fn asked_by(words: &[String]) -> Option<Asked<'_>>
     ensures { option_map form_view result ≡ form_of (texts words.now) }
 {
@@ -49,7 +49,8 @@ fn replay<'a>(
     capture: &'a String,
     script: &'a String,
 ) -> Option<Asked<'a>>
-    ensures { option_map form_view result ≡ replay_of (string_bytes command.now) hex (string_bytes capture.now) (string_bytes script.now) }
+    ensures { option_map form_view result ≡ replay_of (string_bytes command.now) hex
+        (string_bytes capture.now) (string_bytes script.now) }
 {
     let capture = capture.as_str();
     let script = script.as_str();

@@ -10,8 +10,6 @@ use std::marker::Model;
 /// was refused.
 #[derive(Clone, Copy, Debug, PartialEq, Eq, Drop)]
 pub enum Word {
-    /// The datagram has a form that is not built yet.
-    Unbuilt,
     /// The record includes fewer bytes than the frame had.
     Cut,
     /// The frame carries no IP packet.

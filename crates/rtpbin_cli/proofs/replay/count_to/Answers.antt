@@ -2,7 +2,7 @@ use Rattle.std.proofs.Common.{◌∙◌, rules, tests}
 use Rattle.std.specs.Prelude.{nat_lt}
 use Rattle.std.proofs.lemmas.Iterator.{YieldsList-from_slice}
 use Rattle.std.proofs.lemmas.Iterator.Search.{position_from_yields_List}
-use Rattle.log_model.specs.declared.Item.{Item}
+use Rattle.script_lang.specs.declared.script.Item.{Item}
 use Rattle.rtpbin_cli.proofs.Items.{count_is}
 use Rattle.rtpbin_cli.proofs.replay.count_to.Goals as goal
 

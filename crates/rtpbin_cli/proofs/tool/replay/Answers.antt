@@ -18,7 +18,7 @@ returns-in-Ok-open_file-clause-runs g c = λ told.
     let mid = g.F.Files.disk c.read_script.new.files in
     let start = g.F.Files.disk c.open_file.new.self in
     let after = g.F.Files.disk c.replay_open.new.files in
-    capture_runs (Replay c.args.hex c.args.capture.now c.args.script.now) (replay_output c.args.hex c.in-Ok.setup) c.replay_open.result before start after _ _ told
+    capture_runs (Replay c.args.hex c.args.capture.now c.args.script.now) (replay_output c.args.hex c.in-Ok.script) c.replay_open.result before start after _ _ told
     (same_then before mid start c.read_script.ensures.same c.open_file.ensures.same) c.replay_open.ensures.same
     (ap (replay_by c.args.hex) (c.in-Ok.ensures.after told)) (c.in-Ok-open_file.ensures.opened (told_then before mid c.read_script.ensures.same told)) c.replay_open.ensures.opened c.replay_open.ensures.covers
 
@@ -30,4 +30,4 @@ returns-clause-runs g c = λ told.
 
 pub returns-in-Ok-open_file-clause-of_form : goal.returns-in-Ok-open_file-clause-of_form
 returns-in-Ok-open_file-clause-of_form g c =
-    covers_of_form (replay_output c.args.hex c.in-Ok.setup) c.replay_open.result (g.F.Files.disk c.open_file.new.self) (g.F.Files.disk c.replay_open.new.files) (g.O.Sink.written c.args.out.now) (g.O.Sink.written c.replay_open.new.out) c.replay_open.ensures.covers
+    covers_of_form (replay_output c.args.hex c.in-Ok.script) c.replay_open.result (g.F.Files.disk c.open_file.new.self) (g.F.Files.disk c.replay_open.new.files) (g.O.Sink.written c.args.out.now) (g.O.Sink.written c.replay_open.new.out) c.replay_open.ensures.covers

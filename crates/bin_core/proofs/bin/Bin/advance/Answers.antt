@@ -1,0 +1,27 @@
+use Rattle.std.proofs.Common.{◌≡◌, ◌∙◌, Bool, refl, sym, ap}
+use Rattle.std.specs.Prelude.{◌||◌}
+use Rattle.bin_core.specs.Words.{due_left}
+use Rattle.bin_core.specs.declared.bin.Bin.{Bin}
+use Rattle.bin_core.proofs.Binding.{or_kept, advances, has_served}
+use Rattle.bin_core.proofs.bin.Bin.advance.Goals as goal
+use Rattle.bin_core.proofs.bin.Bin.advance.Goals.{then-self-2, else-self-2}
+
+pub returns-after-self-2-clause-fewer : goal.returns-after-self-2-clause-fewer
+unfolding due_left
+returns-after-self-2-clause-fewer c = λ e. c.in-Ok.ensures.fewer e
+
+pub returns-after-self-2-clause-serves : goal.returns-after-self-2-clause-serves
+returns-after-self-2-clause-serves c =
+    let new : Bin = record { agenda = c.serve_one-result.new.self; records = c.args.self.now.records; time = c.args.t; ahead = c.if-self-2.self; finished = c.args.self.now.finished; broken = c.args.self.now.broken } in
+    let ahead : c.if-self-2.self ≡ (c.args.self.now.ahead || c.in-Ok.more) =
+    elim c.if-self-2.branch [
+      | then-self-2 w ↦ w.self-is ∙ or_kept c.args.self.now.ahead c.in-Ok.more w.if-self-2.true
+      | else-self-2 w ↦ w.self-is ∙ sym (ap (λ (x : Bool). x || c.in-Ok.more) w.if-self-2.false)
+    ] in
+    λ k seen told st. advances k seen told c.args.t c.args.self.now new c.in-Ok.more c.args.lines.now c.serve_one-result.new.lines
+    c.serves_all.ensures.step c.serves_in_parts.ensures c.requires.onward refl ahead (λ e. c.in-Ok.ensures.first e) (λ e. c.in-Ok.ensures.none e) st
+
+pub returns-after-self-2-clause-all : goal.returns-after-self-2-clause-all
+returns-after-self-2-clause-all c =
+    let new : Bin = record { agenda = c.serve_one-result.new.self; records = c.args.self.now.records; time = c.args.t; ahead = c.if-self-2.self; finished = c.args.self.now.finished; broken = c.args.self.now.broken } in
+    λ e. has_served c.args.t c.args.self.now new c.args.lines.now c.serve_one-result.new.lines c.serves_all.ensures.stop refl (c.in-Ok.ensures.stays e) (c.in-Ok.ensures.none e)

@@ -1,6 +1,0 @@
-use Rattle.std.proofs.Common.{[]}
-use Rattle.log_model.proofs.Passing.{times_next}
-use Rattle.log_model.proofs.laws.times_go_on.Goals as goal
-
-pub returns-clause-next : goal.returns-clause-next
-returns-clause-next c = λ rs r. times_next [] rs r
