@@ -1,5 +1,6 @@
 pub mod FaultLemmas
 pub mod Parts
+pub mod Numbers
 pub mod OptionLemmas
 pub mod Heads
 pub mod Meanings
@@ -7,5 +8,6 @@ pub mod OptionParts
 pub mod Contents
 pub mod Wholes
 pub mod Steps
+pub mod Borders
 pub mod Searching
 pub mod Standing

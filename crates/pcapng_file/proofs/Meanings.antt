@@ -8,7 +8,7 @@ use Rattle.rtp_io.specs.Outside.{Disk}
 use Rattle.pcap_file.specs.Numbers.{number_at}
 use Rattle.pcap_file.specs.declared.order.Order.{Order}
 use Rattle.pcap_file.specs.declared.order.Order.TheVariants.{Little, Big}
-use Rattle.pcap_file.proofs.NumberLemmas.{number_front}
+use Rattle.pcapng_file.proofs.Numbers.{number_front}
 use Rattle.pcapng_file.specs.declared.fault.NgFault.{NgFault}
 use Rattle.pcapng_file.specs.declared.fault.NgFault.TheVariants.{Version}
 use Rattle.pcapng_file.specs.declared.frame.Frame.{Frame}

@@ -8,7 +8,7 @@ use Rattle.std.proofs.lemmas.List.{length-append, drop_at, take-append-le}
 use Rattle.rtp_io.specs.Outside.{Disk}
 use Rattle.pcap_file.specs.Numbers.{number_at}
 use Rattle.pcap_file.specs.declared.order.Order.{Order}
-use Rattle.pcap_file.proofs.NumberLemmas.{number_front}
+use Rattle.pcapng_file.proofs.Numbers.{number_front}
 use Rattle.pcapng_file.specs.declared.options.Said.{Said}
 use Rattle.pcapng_file.specs.Options.{filled, fits, said_by, also, also_option, options_say}
 use Rattle.pcapng_file.specs.Pieces.{TakesPart}

@@ -4,6 +4,7 @@ use Rattle.rtp_io.specs.Outside.{Disk}
 use Rattle.rtp_io.specs.Pulled.{Keeps, Takes}
 use Rattle.pcap_file.specs.Capture.{Record}
 use Rattle.pcap_file.specs.Reading.{record_view}
+use Rattle.pcapng_file.specs.Ends.{record_end}
 use Rattle.pcapng_file.specs.Faults.{OnFault}
 use Rattle.pcapng_file.specs.Pieces.{GaveFewer}
 use Rattle.pcapng_file.specs.Blocks.{Mark, Meaning, NewSection, NewInterface, NewPacket, Nothing, AtEnd, AtFault, AtBlock, is_section, is_too_many, mark_after, records_of, meaning_of, block_of, head_of, with_front, blocks_from, ng_capture}
@@ -159,11 +160,19 @@ AfterStep (Err fault) old new held rest before after = AfterFault fault old [] h
 pub record PassesBlocks (old new : Mark) (front held rest : List ℕ) (before after : Disk) : Type 0 where
   pub taken : List ℕ
   pub takes : Takes taken held rest before after
+  pub counted : new.records ≡ old.records
+  pub placed : new.offset ≡ old.offset + length front + length taken
   pub stands : (more : List ℕ) → blocks_from old (front ++ (taken ++ more)) ≡ blocks_from new more
 
+-- Blocks were taken of which the last alone has a record, and ends where the mark is.
 pub record TakesPacket (old new : Mark) (r : Record) (front held rest : List ℕ) (before after : Disk) : Type 0 where
   pub taken : List ℕ
   pub takes : Takes taken held rest before after
+  pub counted : new.records ≡ old.records + 1
+  pub few : new.records ≤ 100000000
+  pub placed : new.offset ≡ old.offset + length front + length taken
+  pub ends : (blocks more : List ℕ) → length blocks ≡ old.offset
+      → record_end (blocks ++ (front ++ (taken ++ more))) r ≡ new.offset
   pub stands : (more : List ℕ) → blocks_from old (front ++ (taken ++ more)) ≡ with_front (r ∷ []) (blocks_from new more)
 
 abbrev pub Ends : Mark → Option NgFault → List ℕ → List ℕ → Disk → Type 0
@@ -196,16 +205,26 @@ pub record Place : Type 0 where
   pub fault : Option NgFault
 
 -- The bytes that were taken are these records, whatever comes behind, and the place is behind them.
-unfoldable pub StandsFor : Place → List ℕ → List Record → Type 0
-StandsFor place passed seen = (more : List ℕ) → ng_capture (passed ++ more) ≡ with_front seen (blocks_from place.mark (place.head ++ more))
+pub record StandsFor (place : Place) (passed : List ℕ) (seen : List Record) : Type 0 where
+  -- the blocks that were looked at
+  pub blocks : List ℕ
+  pub parts : passed ≡ blocks ++ place.head
+  pub placed : length blocks ≡ place.mark.offset
+  pub whole : (more : List ℕ)
+      → ng_capture (passed ++ more) ≡ with_front seen (blocks_from place.mark (place.head ++ more))
 
--- A record was taken, and the place stands for the records with it.
+-- A record was taken, and the place stands for the records with it. Of its block all was taken, and
+-- nothing behind it.
 pub record TakesRecord (old new : Place) (r : Record) (held rest : List ℕ) (before after : Disk) : Type 0 where
   pub taken : List ℕ
   pub takes : Takes taken held rest before after
+  pub counted : new.mark.records ≡ old.mark.records + 1
+  pub bound : new.mark.records ≤ 100000000
   pub short : length r.bytes ≤ 262144
   pub early : r.stamp < 2 ^ 32 * 1000000000
   pub onward : (passed : List ℕ) (seen : List Record) → StandsFor old passed seen → StandsFor new (passed ++ taken) (seen ++ r ∷ [])
+  pub ends : (passed : List ℕ) (seen : List Record) → StandsFor old passed seen
+      → (more : List ℕ) → record_end ((passed ++ taken) ++ more) r ≡ length (passed ++ taken)
 
 -- The records before this place are all, and then comes this.
 abbrev pub Finds : Place → Option NgFault → List ℕ → Disk → Type 0

@@ -42,6 +42,7 @@ impl Ng {
         requires { is_section head ≡ true }
         ensures stands { IfOk result (λ ng. StandsFor ng head []) }
         ensures interfaces { IfOk result (λ ng. ng.mark.interfaces ≡ []) }
+        ensures records { IfOk result (λ ng. ng.mark.records ≡ 0) }
         ensures fault { IfOk result (λ ng. ng.fault ≡ None) }
     {
         Ok(Ng {

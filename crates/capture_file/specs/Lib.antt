@@ -1,0 +1,4 @@
+pub mod Faults
+pub mod Capture
+pub mod Place
+pub mod Reading
