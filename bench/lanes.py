@@ -1,5 +1,5 @@
 #!/usr/bin/env python3
-"""Packets per second of `replay` and its peak memory: one lane, 64 lanes, and one lane with requests on.
+"""Packets per second of processor time of `replay`, and its peak memory: one lane, 64 lanes, and one lane with requests on.
 
 usage: bench/lanes.py PROGRAM
 
@@ -7,13 +7,11 @@ A million packets each, every fiftieth missing, two in a hundred out of order. T
 lie within a factor of two of each other.
 """
 import os
-import resource
-import subprocess
 import sys
 import tempfile
-import time
 
 from packets import arrivals, write_capture
+from usage import usage_of
 
 COUNT = 1_000_000
 SCRIPT = 'session 0 5004 5005\npt 0 96 90000\nset latency 60\nset probation 0\nset mode none\n'
@@ -29,19 +27,9 @@ def cases():
 
 
 def measured(program, capture, script):
-    """Seconds of the fastest run, and its peak memory in MB."""
-    best, peak = None, 0
-    for _ in range(RUNS):
-        with open(os.devnull, 'wb') as nowhere:
-            begin = time.perf_counter()
-            child = subprocess.Popen([program, 'replay', capture, script], stdout=nowhere)
-            _, status, usage = os.wait4(child.pid, 0)
-            took = time.perf_counter() - begin
-        if status:
-            sys.exit('status %d' % status)
-        best = took if best is None else min(best, took)
-        peak = max(peak, usage.ru_maxrss / 1024)
-    return best, peak
+    """Seconds of processor time of the fastest run, and its peak memory in MB."""
+    runs = [usage_of([program, 'replay', capture, script]) for _ in range(RUNS)]
+    return min(took for took, _ in runs), max(peak for _, peak in runs)
 
 
 def main():

@@ -5,6 +5,7 @@ reordered.pcap  a call of twelve packets in which two come in the wrong order, o
                 comes too late
 lossy.pcap      a call that loses four packets: three come again as retransmissions (RFC 4588), one
                 never does
+answered.pcap   what the sender of that call sent, and the NACKs that came back to it
 synced.pcap     sound and pictures of one sender, in two sessions, with sender reports
 joined.pcap     a call in which a second source joins, and the first one says BYE and leaves
 
@@ -36,6 +37,11 @@ def again(own, number, timestamp):
 
 def rtcp(kind, count, body):
     return struct.pack('>BBH', 0x80 | count, kind, len(body) // 4) + body
+
+
+def nack(number):
+    """A generic NACK (RFC 4585, section 6.2.1) for one number of the caller."""
+    return rtcp(205, 1, struct.pack('>IIHH', 1, CALLER, number, 0))
 
 
 def sender_report(ssrc, ntp_ms, timestamp):
@@ -94,6 +100,13 @@ def lossy():
                     for own, number, at in repeated]
 
 
+def answered():
+    """The sender of the lossy call: all that it sent, and the NACKs that came back to it."""
+    sent = [(20 * (number - 1) * MS, 5004, sound(number)) for number in range(1, 21)]
+    return sent + [(at * MS, 5005, nack(number)) for number, at in
+                   [(4, 80), (9, 180), (10, 220), (15, 300)]]
+
+
 def synced():
     datagrams = [(20 * i * MS, 5004, rtp(100 + i, 160 * i, CALLER, 0)) for i in range(15)]
     # a picture of two packets each 40 ms, the second one marked
@@ -119,7 +132,7 @@ def joined():
 
 def main():
     folder = sys.argv[1] if len(sys.argv) > 1 else os.path.dirname(os.path.abspath(__file__))
-    for make in (reordered, lossy, synced, joined):
+    for make in (reordered, lossy, answered, synced, joined):
         with open(os.path.join(folder, make.__name__ + '.pcap'), 'wb') as file:
             file.write(capture(make()))
 

@@ -15,7 +15,7 @@ use Rattle.replay_model.specs.Ending.{closed}
 use Rattle.front_model.specs.Events.{Came}
 use Rattle.replay_model.specs.Taking.{taken}
 use Rattle.replay_model.specs.Order.{input_time}
-use Rattle.replay_model.specs.Log.{served, with_item, with_input, timeline, log_part, log, with_done}
+use Rattle.replay_model.specs.Log.{served, with_item, with_input, timeline, with_done}
 use Rattle.lane_core.specs.Lanes.{Base, Adds}
 use Rattle.bin_core.specs.declared.bin.Bin.{Bin}
 use Rattle.bin_core.specs.declared.agenda.Agenda.{Agenda}

@@ -1,5 +1,5 @@
 -- An item comes to the lanes that it is for.
-use Rattle.std.proofs.Common.{ℕ, zero, suc, ◌≡◌, ◌<◌, ◌≤◌, Bool, true, false, not, refl, sym, ap, subst, ◌∙◌, List, [], ◌∷◌, ◌++◌, length, Some, arith}
+use Rattle.std.proofs.Common.{ℕ, zero, suc, ◌≡◌, ◌<◌, Bool, true, false, not, refl, sym, ap, subst, ◌∙◌, List, [], ◌∷◌, length, Some, arith}
 use Rattle.std.specs.Prelude.{All, ◌&&◌, nat_lt, get_or, slice_get, if◌then◌else◌}
 use Rattle.std.proofs.lemmas.Grind.{common_steps}
 use Rattle.std.proofs.lemmas.List.{append-nil}
@@ -15,12 +15,11 @@ use Rattle.front_model.specs.Events.{FrontEvent}
 use Rattle.rtp_front.specs.Standing.{State as FrontState, StandsFor as FrontStandsFor}
 use Rattle.replay_model.specs.Events.{Timeline, Acted, At, front, kept, items, openings}
 use Rattle.replay_model.specs.Lanes.{lane_count, opened}
-use Rattle.replay_model.specs.Acting.{is_for, done_to, acted_on, all_acted, ticked_where, acted}
+use Rattle.replay_model.specs.Acting.{is_for, done_to, acted_on, all_acted, ticked_where}
 use Rattle.replay_model.specs.Log.{with_item}
-use Rattle.replay_model.proofs.Lanes.{by_cases}
 use Rattle.replay_model.proofs.Keeping.{all_acted_openings, acted_front}
 use Rattle.lane_core.specs.declared.lane.Lane.{Lane}
-use Rattle.lane_core.specs.Lanes.{Base, LaneHolds}
+use Rattle.lane_core.specs.Lanes.{Base}
 use Rattle.lane_core.specs.AllLanes.{LanesRest, SameLanes, ActOn, all_resting}
 use Rattle.lane_core.proofs.Placing.{lanes_apart, lanes_opened, lanes_fewer}
 use Rattle.bin_core.specs.declared.standings.Standing.{Standing}

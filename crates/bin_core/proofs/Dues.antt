@@ -1,17 +1,16 @@
 -- What is due first, and that less is left behind it.
-use Rattle.std.proofs.Common.{ℕ, zero, suc, ◌≡◌, ◌≢◌, ◌+◌, ◌-◌, ◌<◌, ◌≤◌, Bool, true, false, refl, sym, ap, subst, ◌∙◌, List, [], ◌∷◌, length, Option, None, Some, max, arith}
-use Rattle.std.specs.Prelude.{◌==◌, nat_le, set, if◌then◌else◌}
+use Rattle.std.proofs.Common.{ℕ, zero, suc, ◌≡◌, ◌+◌, ◌<◌, ◌≤◌, Bool, true, false, refl, sym, ap, subst, ◌∙◌, List, length, Option, None, Some, arith}
+use Rattle.std.specs.Prelude.{◌==◌, nat_le, if◌then◌else◌}
 use Rattle.std.proofs.lemmas.Grind.{common_steps}
 use Rattle.jitter_model.specs.Laws.{IsLater}
 use Rattle.script_lang.specs.Contents.{Contents}
 use Rattle.timeline.specs.declared.line.BinLine.{BinLine}
-use Rattle.front_model.specs.declared.Opening.{Opening}
 use Rattle.replay_model.specs.declared.Wake.{Wake}
 use Rattle.replay_model.specs.declared.Due.{Due}
 use Rattle.replay_model.specs.declared.Due.TheVariants as due
 use Rattle.replay_model.specs.Events.{Timeline}
 use Rattle.replay_model.specs.Lanes.{lane_count, opened}
-use Rattle.replay_model.specs.Serving.{wake, first_wake, next_report, report_time, earlier, due_time, up_to, room, rooms}
+use Rattle.replay_model.specs.Serving.{wake, first_wake, report_time, earlier, due_time, up_to, room, rooms}
 use Rattle.replay_model.proofs.Lanes.{by_cases}
 use Rattle.replay_model.proofs.Serving.{IsIn, first_in, rooms_same, room_falls, rooms_fall}
 use Rattle.replay_model.proofs.Waiting.{some_first}
@@ -19,10 +18,10 @@ use Rattle.lane_core.specs.declared.lane.Lane.{Lane}
 use Rattle.lane_core.specs.Lanes.{Base}
 use Rattle.lane_core.specs.AllLanes.{wakes_in, wakes_left}
 use Rattle.lane_core.proofs.Serving.{first_is}
-use Rattle.bin_core.specs.declared.stage.Stage.{Stage}
 use Rattle.bin_core.specs.declared.agenda.Agenda.{Agenda}
 use Rattle.bin_core.specs.Stages.{SameButOne, SameWakes}
-use Rattle.bin_core.specs.Agendas.{Holds, due_first, next_by, left_in}
+use Rattle.bin_core.specs.Intervals.{next_by}
+use Rattle.bin_core.specs.Agendas.{Holds, due_first, left_in}
 
 -- the report time that is looked at
 abbrev pub report_by : Bool → Option ℕ → Option ℕ

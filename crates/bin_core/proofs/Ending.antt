@@ -1,5 +1,5 @@
 -- The end of lanes.
-use Rattle.std.proofs.Common.{ℕ, zero, suc, ◌≡◌, ◌≢◌, ◌+◌, ◌<◌, ◌≤◌, Bool, true, false, refl, sym, ap, subst, ◌∙◌, List, [], ◌∷◌, ◌++◌, length, arith}
+use Rattle.std.proofs.Common.{ℕ, zero, suc, ◌≡◌, ◌+◌, ◌<◌, Bool, true, false, refl, sym, ap, subst, ◌∙◌, List, [], ◌∷◌, ◌++◌, length, arith}
 use Rattle.std.specs.Prelude.{get_or, set, sum_by, if◌then◌else◌}
 use Rattle.jitter_model.specs.declared.Entry.TheVariants.{Ends}
 use Rattle.jitter_model.specs.declared.Settings.{Settings}
@@ -12,7 +12,7 @@ use Rattle.front_model.specs.declared.Opening.{Opening}
 use Rattle.front_model.specs.Events.{records}
 use Rattle.rtp_front.specs.Standing.{StandsFor as FrontStandsFor}
 use Rattle.replay_model.specs.Events.{Timeline, At, openings, front}
-use Rattle.replay_model.specs.Lines.{lines, out_in, lost_in, refused_in}
+use Rattle.replay_model.specs.Lines.{lines, out_in, lost_in}
 use Rattle.replay_model.specs.Log.{done_of}
 use Rattle.replay_model.specs.Lanes.{lane_count, opened}
 use Rattle.replay_model.specs.Turning.{settled}

@@ -4,6 +4,7 @@ pub mod Marking
 pub mod Requesting
 pub mod Offsetting
 pub mod Sending
+pub mod Owing
 pub mod Staging
 pub mod Ticking
 pub mod Controlling
@@ -12,3 +13,4 @@ pub mod Ending
 pub mod Dues
 pub mod Serving
 pub mod Binding
+pub mod Knowing

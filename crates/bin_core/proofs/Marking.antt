@@ -1,5 +1,5 @@
 -- Lists of which lanes pass, and lists of steps that only tell.
-use Rattle.std.proofs.Common.{ℕ, zero, suc, ◌≡◌, ◌+◌, ◌<◌, ◌≤◌, Bool, true, false, refl, sym, ap, subst, ◌∙◌, List, [], ◌∷◌, ◌++◌, map, length, arith}
+use Rattle.std.proofs.Common.{ℕ, zero, suc, ◌≡◌, ◌+◌, ◌<◌, ◌≤◌, Bool, true, refl, sym, ap, subst, ◌∙◌, List, [], ◌∷◌, ◌++◌, length, arith}
 use Rattle.std.specs.Prelude.{◌||◌, get_or, nat_le}
 use Rattle.std.specs.List.{list_any}
 use Rattle.std.proofs.lemmas.Grind.{common_steps}
@@ -10,7 +10,8 @@ use Rattle.front_model.specs.declared.Step.TheVariants as step
 use Rattle.replay_model.specs.Taking.{touches, is_touched}
 use Rattle.replay_model.proofs.Lanes.{by_cases}
 use Rattle.lane_core.specs.declared.lane.Lane.{Lane}
-use Rattle.bin_core.specs.Stages.{passes_by, counts_none, AreTold, TellsAll}
+use Rattle.replay_sound.specs.Suited.{counts_none}
+use Rattle.bin_core.specs.Stages.{passes_by, AreTold, TellsAll}
 
 -- ---- marks
 
@@ -89,7 +90,3 @@ pub passes_get : (bs : List Bool) (k : ℕ) (b d : Bool) → k < length bs → b
 passes_get [] k b d lt e = absurd (omega arith)
 passes_get (x ∷ bs) zero b d lt e = e
 passes_get (x ∷ bs) (suc k) b d lt e = passes_get bs k b d (omega arith) e
-
-pub map_same : {A : Type 0} (xs : List A) → map (λ y. y) xs ≡ xs
-map_same [] = refl
-map_same (x ∷ xs) = ap (λ ys. x ∷ ys) (map_same xs)

@@ -12,7 +12,6 @@ use Rattle.front_model.specs.declared.Opening.{Opening}
 use Rattle.front_model.specs.Events.{FrontEvent, Requested}
 use Rattle.rtp_front.specs.Standing.{State, StandsFor}
 use Rattle.front_model.specs.Reports.{nack_bytes}
-use Rattle.ntp_sync.specs.Offsets.{Call}
 use Rattle.replay_model.specs.Events.{Timeline, Fronted, Told, At, front, kept, lane}
 use Rattle.replay_model.specs.Lines.{lines}
 use Rattle.replay_model.specs.Turning.{turned, turns_up_to, all_turns, request, all_requested, sent, asked, settled}

@@ -1,29 +1,25 @@
 -- An agenda along the timeline.
-use Rattle.std.proofs.Common.{ℕ, zero, suc, ◌≡◌, ◌≢◌, ◌+◌, ◌<◌, ◌≤◌, ◌^◌, Bool, true, false, refl, sym, ap, subst, ◌∙◌, List, [], ◌∷◌, ◌++◌, length, Option, None, Some, max, arith}
+use Rattle.std.proofs.Common.{ℕ, zero, suc, ◌≡◌, ◌≢◌, ◌+◌, ◌≤◌, Bool, true, false, refl, sym, ap, subst, ◌∙◌, List, [], ◌∷◌, ◌++◌, length, Option, None, Some, max, arith}
 use Rattle.std.specs.Prelude.{◌==◌, slice_get, if◌then◌else◌}
 use Rattle.std.proofs.Math.Nat.{max_comm}
 use Rattle.std.proofs.lemmas.Grind.{common_steps}
-use Rattle.jitter_model.specs.Laws.{IsLater}
 use Rattle.script_lang.specs.Contents.{Contents}
 use Rattle.script_lang.specs.declared.script.Item.{Item}
 use Rattle.timeline.specs.declared.line.BinLine.{BinLine}
 use Rattle.front_model.specs.declared.Opening.{Opening}
-use Rattle.front_model.specs.declared.Step.{Step}
-use Rattle.front_model.specs.Events.{FrontEvent, Came, ReportsDue}
+use Rattle.front_model.specs.Events.{FrontEvent, ReportsDue}
 use Rattle.front_model.specs.Steps.{steps}
-use Rattle.replay_model.specs.declared.Wake.{Wake}
 use Rattle.replay_model.specs.declared.Due.{Due}
-use Rattle.replay_model.specs.declared.Due.TheVariants as due
 use Rattle.replay_model.specs.Events.{Event, Timeline, Acted, Fronted, At, event_time, front, items, latest, openings}
 use Rattle.jitter_model.specs.declared.Entry.TheVariants.{Clock}
 use Rattle.replay_model.specs.declared.TheConstants.{END_OF_TIME}
 use Rattle.replay_model.specs.Acting.{is_for, all_acted, ticked_where}
 use Rattle.replay_model.specs.Lanes.{lane_count, opening_or, opened}
 use Rattle.replay_model.specs.Turning.{ticked}
-use Rattle.replay_model.specs.Taking.{fronted, taken, all_stepped, is_touched}
+use Rattle.replay_model.specs.Taking.{fronted, taken, is_touched}
 use Rattle.replay_model.specs.Serving.{next_report, last_report, first_due, serve_one, serve}
 use Rattle.replay_model.specs.Ending.{closed, all_ended}
-use Rattle.replay_model.specs.Log.{served, with_item, with_done}
+use Rattle.replay_model.specs.Log.{with_item, with_done}
 use Rattle.replay_model.proofs.Lanes.{by_cases}
 use Rattle.replay_model.proofs.Turning.{ticked_latest, settled_items}
 use Rattle.replay_model.proofs.Serving.{ticked_reports}
@@ -32,11 +28,11 @@ use Rattle.replay_model.proofs.Keeping.{one_openings, serve_openings, where_yes,
 use Rattle.replay_model.proofs.Extending.{Adds, AreAt, then_more, all_stepped_extend, ticked_where_extend, acted_extend}
 use Rattle.lane_core.specs.Lanes.{Base, Adds as AddsLines}
 use Rattle.lane_core.specs.AllLanes.{all_resting, resting_and}
-use Rattle.bin_core.specs.declared.stage.Stage.{Stage}
 use Rattle.bin_core.specs.declared.agenda.Agenda.{Agenda}
 use Rattle.bin_core.specs.Stages.{StageTells, Ticks, GoesOn, Finishes, none_resting}
 use Rattle.bin_core.proofs.Controlling.{acted_items}
-use Rattle.bin_core.specs.Agendas.{Holds, GoesTo, ServesFirst, ServesNothing, due_first, next_by, all_served}
+use Rattle.bin_core.specs.Intervals.{next_by}
+use Rattle.bin_core.specs.Agendas.{Holds, GoesTo, ServesFirst, ServesNothing, due_first, all_served}
 use Rattle.bin_core.proofs.Staging.{tells_fewer}
 use Rattle.bin_core.proofs.Ticking.{and_other}
 
@@ -86,12 +82,12 @@ taken_last c t e tl =
 -- ---- what is served
 
 pub reports_at :
-    (c : Contents) (base : Base) (t interval : ℕ) (next : Option ℕ) (last : ℕ) (old : Agenda) (stage : Stage) (before after : List BinLine) (tl : Timeline)
-    → interval ≡ old.interval → next ≡ next_by old.interval t → last ≡ max old.latest t
-    → GoesOn old.stage stage before after (λ k. fronted k t (ReportsDue t))
+    (c : Contents) (base : Base) (t : ℕ) (old new : Agenda) (before after : List BinLine) (tl : Timeline)
+    → new.interval ≡ old.interval → new.next_report ≡ next_by old.interval t → new.latest ≡ max old.latest t
+    → GoesOn old.stage new.stage before after (λ k. fronted k t (ReportsDue t))
     → Holds c base old before tl
-    → Holds c base (record { stage = stage; interval = interval; next_report = next; latest = last }) after (fronted c t (ReportsDue t) tl)
-reports_at c base t interval next last old stage before after tl same next_is last_is goes h =
+    → Holds c base new after (fronted c t (ReportsDue t) tl)
+reports_at c base t old new before after tl same next_is last_is goes h =
     record {
       stage = goes c base tl h.stage;
       interval = same ∙ h.interval;
@@ -101,31 +97,32 @@ reports_at c base t interval next last old stage before after tl same next_is la
     }
 
 pub turns_at :
-    (c : Contents) (base : Base) (t n last : ℕ) (old : Agenda) (stage : Stage) (before after : List BinLine) (tl : Timeline)
-    → last ≡ max old.latest t
-    → Ticks t n old.stage stage before after
+    (c : Contents) (base : Base) (t n : ℕ) (old new : Agenda) (before after : List BinLine) (tl : Timeline)
+    → new.interval ≡ old.interval → new.next_report ≡ old.next_report → new.latest ≡ max old.latest t
+    → Ticks t n old.stage new.stage before after
     → Holds c base old before tl
-    → Holds c base (record { stage = stage; interval = old.interval; next_report = old.next_report; latest = last }) after (ticked c (opened c tl) t n tl)
-turns_at c base t n last old stage before after tl last_is ticks h =
-    let new : Timeline = ticked c (opened c tl) t n tl in
+    → Holds c base new after (ticked c (opened c tl) t n tl)
+turns_at c base t n old new before after tl same next_is last_is ticks h =
+    let there : Timeline = ticked c (opened c tl) t n tl in
     record {
-      stage = tells_fewer c base (resting_and n all_resting) all_resting stage after new (λ k lt e. and_other all_resting n k (λ ne. refl)) (ticks c base all_resting tl h.stage);
-      interval = h.interval;
-      next = h.next ∙ sym (ticked_reports c (opened c tl) true t n tl);
+      stage = tells_fewer c base (resting_and n all_resting) all_resting new.stage after there (λ k lt e. and_other all_resting n k (λ ne. refl)) (ticks c base all_resting tl h.stage);
+      interval = same ∙ h.interval;
+      next = next_is ∙ h.next ∙ sym (ticked_reports c (opened c tl) true t n tl);
       last = last_is ∙ ap (λ (m : ℕ). max m t) h.last ∙ max_comm (latest tl) t ∙ sym (ticked_latest c (opened c tl) t n tl);
     }
 
 pub takes_at :
-    (c : Contents) (base : Base) (t last : ℕ) (e : FrontEvent) (mid : Agenda) (stage : Stage) (before after : List BinLine) (tl : Timeline)
-    → last_report (e ∷ front tl) ≡ last_report (front tl) → last ≡ max mid.latest t
-    → GoesOn mid.stage stage before after (λ k. taken k t e)
+    (c : Contents) (base : Base) (t : ℕ) (e : FrontEvent) (mid new : Agenda) (before after : List BinLine) (tl : Timeline)
+    → last_report (e ∷ front tl) ≡ last_report (front tl)
+    → new.interval ≡ mid.interval → new.next_report ≡ mid.next_report → new.latest ≡ max mid.latest t
+    → GoesOn mid.stage new.stage before after (λ k. taken k t e)
     → Holds c base mid before tl
-    → Holds c base (record { stage = stage; interval = mid.interval; next_report = mid.next_report; latest = last }) after (taken c t e tl)
-takes_at c base t last e mid stage before after tl no_report last_is goes h =
+    → Holds c base new after (taken c t e tl)
+takes_at c base t e mid new before after tl no_report same next_is last_is goes h =
     record {
       stage = goes c base tl h.stage;
-      interval = h.interval;
-      next = h.next ∙ sym (next_same c tl (taken c t e tl) (taken_last c t e tl ∙ no_report));
+      interval = same ∙ h.interval;
+      next = next_is ∙ h.next ∙ sym (next_same c tl (taken c t e tl) (taken_last c t e tl ∙ no_report));
       last = last_is ∙ ap (λ (n : ℕ). max n t) h.last ∙ sym (fronted_latest t e tl (taken c t e tl) (taken_adds c t e tl));
     }
 
@@ -233,16 +230,16 @@ item_last c i tl =
     ∙ ap last_report (acted_front (opened c tl) i.time (lane_count tl) i.action (Acted i ∷ tl))
 
 pub controls_at :
-    (c : Contents) (base : Base) (i : Item) (last : ℕ) (mid : Agenda) (stage : Stage) (before after : List BinLine) (tl : Timeline)
-    → last ≡ max mid.latest i.time
-    → GoesOn mid.stage stage before after (λ k. with_item k i)
+    (c : Contents) (base : Base) (i : Item) (mid new : Agenda) (before after : List BinLine) (tl : Timeline)
+    → new.interval ≡ mid.interval → new.next_report ≡ mid.next_report → new.latest ≡ max mid.latest i.time
+    → GoesOn mid.stage new.stage before after (λ k. with_item k i)
     → Holds c base mid before tl
-    → Holds c base (record { stage = stage; interval = mid.interval; next_report = mid.next_report; latest = last }) after (with_item c i tl)
-controls_at c base i last mid stage before after tl last_is goes h =
+    → Holds c base new after (with_item c i tl)
+controls_at c base i mid new before after tl same next_is last_is goes h =
     record {
       stage = goes c base tl h.stage;
-      interval = h.interval;
-      next = h.next ∙ sym (next_same c tl (with_item c i tl) (item_last c i tl));
+      interval = same ∙ h.interval;
+      next = next_is ∙ h.next ∙ sym (next_same c tl (with_item c i tl) (item_last c i tl));
       last = last_is ∙ ap (λ (n : ℕ). max n i.time) h.last ∙ max_comm (latest tl) i.time
           ∙ sym (some_added i.time i tl (with_item c i tl) (acted_extend c (opened c tl) (lane_count tl) i tl) (item_items c i tl));
     }

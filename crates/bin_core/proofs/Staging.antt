@@ -1,5 +1,5 @@
 -- A stage along the timeline.
-use Rattle.std.proofs.Common.{ℕ, zero, suc, ◌≡◌, ◌≢◌, ◌+◌, ◌<◌, ◌≤◌, Bool, true, false, not, refl, sym, ap, subst, ◌∙◌, List, [], ◌∷◌, ◌++◌, length, Some, arith}
+use Rattle.std.proofs.Common.{ℕ, zero, suc, ◌≡◌, ◌+◌, ◌<◌, ◌≤◌, Bool, true, false, refl, sym, ap, subst, ◌∙◌, List, [], ◌∷◌, ◌++◌, length, Some, arith}
 use Rattle.std.specs.Prelude.{All, ◌==◌, get_or, set, slice_get, slice_index_or, if◌then◌else◌}
 use Rattle.std.proofs.lemmas.Grind.{common_steps}
 use Rattle.std.proofs.lemmas.List.{append_assoc, append-nil, length-set, length_push}
@@ -17,7 +17,6 @@ use Rattle.front_model.specs.declared.Step.TheVariants as step
 use Rattle.front_model.specs.Events.{FrontEvent}
 use Rattle.rtp_front.specs.Standing.{State as FrontState, StandsFor as FrontStandsFor}
 use Rattle.replay_model.specs.Events.{Timeline, Fronted, Began, Told, At, front, kept, lane, openings, items}
-use Rattle.replay_model.specs.Lines.{lines}
 use Rattle.replay_model.specs.Lanes.{lane_count, opened, latency_of, is_flushing_of, latency_after, is_flushing_after}
 use Rattle.replay_model.specs.Turning.{all_turns, asked, settled}
 use Rattle.replay_model.specs.Taking.{touches, flushed_at_begin, begun, fronted, all_stepped}
@@ -26,12 +25,13 @@ use Rattle.replay_model.proofs.Lanes.{by_cases}
 use Rattle.replay_model.proofs.Turning.{settled_lane, settled_items}
 use Rattle.replay_model.proofs.Keeping.{settled_openings, same_opened}
 use Rattle.lane_core.specs.declared.lane.Lane.{Lane}
-use Rattle.lane_core.specs.Lanes.{GoesOn as LaneGoesOn, pushed_at, Base, Around, LaneTells, LaneRests, LaneAsks}
+use Rattle.lane_core.specs.Lanes.{GoesOn as LaneGoesOn, pushed_at, Base, Around, LaneTells, LaneAsks}
 use Rattle.lane_core.specs.AllLanes.{LanesRest, BeginsAs, AddsLane, Open, all_resting, resting_and, resting_but, wakes_in}
 use Rattle.lane_core.proofs.Placing.{around, one_tells, wakes_other, lanes_go_on, lanes_rest, lanes_apart, lanes_opened, lanes_fewer}
 use Rattle.bin_core.specs.declared.standings.Standing.{Standing}
 use Rattle.bin_core.specs.declared.stage.Stage.{Stage}
-use Rattle.bin_core.specs.Stages.{standing, nack_lines, requests_behind, none_resting, counts_none, Sends, StageTells, Begins, AreApart, AreTold, TellsAll, Does, SameButOne}
+use Rattle.replay_sound.specs.Suited.{counts_none}
+use Rattle.bin_core.specs.Stages.{standing, nack_lines, requests_behind, Sends, StageTells, Begins, AreApart, AreTold, TellsAll, Does, SameButOne}
 use Rattle.bin_core.proofs.Counting.{line_sums}
 use Rattle.bin_core.proofs.Sending.{turns_of, nack_sums, series_front, series_kept, series_lines}
 

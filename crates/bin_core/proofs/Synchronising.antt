@@ -1,17 +1,24 @@
 -- A sender report comes to a lane, and offsets are told.
-use Rattle.std.proofs.Common.{ℕ, zero, suc, ◌≡◌, ◌+◌, ◌<◌, ◌≤◌, Bool, true, false, refl, sym, ap, subst, ◌∙◌, List, [], ◌∷◌, ◌++◌, map, length, Option, None, Some, arith}
-use Rattle.std.specs.Prelude.{All, ◌==◌, get_or, set, slice_get}
+use Rattle.std.proofs.Common.{ℕ, ◌≡◌, ◌<◌, ◌^◌, Bool, true, false, refl, sym, ap, subst, ◌∙◌, List, [], ◌∷◌, ◌++◌, map, length, Option, None, Some, arith}
+use Rattle.std.specs.Prelude.{ℤ, ◌+ℤ◌, pos, negsuc, All, ◌==◌, get_or, set, slice_get, if◌then◌else◌}
+use Rattle.std.proofs.Props.{props}
+use Rattle.std.proofs.Math.Logic.{∥∥₁_elim}
 use Rattle.std.proofs.lemmas.Grind.{common_steps}
 use Rattle.std.proofs.lemmas.List.Sums.{sum_by-cons}
 use Rattle.std.proofs.lemmas.List.{append_assoc, append-nil, length-set}
 use Rattle.std.proofs.lemmas.List.Elements.{All-cons}
 use Rattle.rtp_units.specs.declared.SyncInfo.{SyncInfo}
-use Rattle.jitter_model.specs.declared.Entry.TheVariants.{Report}
-use Rattle.jitter_model.specs.Runs.{report}
+use Rattle.rtp_units.specs.Numbers.{hold, ext32}
+use Rattle.skew_model.specs.Skew.{Estimate, sent_at, other_time}
+use Rattle.jitter_model.specs.declared.Settings.{Settings}
+use Rattle.jitter_model.specs.History.{History, is_flushing}
+use Rattle.jitter_model.specs.Accepted.{accepted}
+use Rattle.jitter_model.specs.Times.{estimate_of}
+use Rattle.jitter_model.specs.Runs.{report, report_at}
+use Rattle.jitter_core.specs.Words.{Stands, settings_of}
 use Rattle.script_lang.specs.Contents.{Contents}
 use Rattle.script_lang.specs.declared.script.Item.{Item}
 use Rattle.timeline.specs.declared.line.BinLine.{BinLine}
-use Rattle.timeline.specs.declared.line.BinLine.TheVariants as told
 use Rattle.ntp_sync.specs.Offsets.{Call, StandsFor as SyncStandsFor}
 use Rattle.front_model.specs.declared.Opening.{Opening}
 use Rattle.front_model.specs.Events.{FrontEvent}
@@ -19,12 +26,12 @@ use Rattle.front_model.specs.declared.SenderReport.{SenderReport}
 use Rattle.front_model.specs.declared.Step.TheVariants as step
 use Rattle.front_model.specs.Sessions.{cname}
 use Rattle.rtp_front.specs.Standing.{State as FrontState, StandsFor as FrontStandsFor}
-use Rattle.replay_model.specs.Events.{Timeline, Told, At, Kept, front, kept, lane, openings, items}
+use Rattle.replay_model.specs.Events.{Timeline, Told, Kept, front, kept, lane, openings, items}
 use Rattle.replay_model.specs.Lines.{lines, out_in, lost_in, refused_in, all_told}
 use Rattle.replay_model.specs.Lanes.{lane_count, opened}
-use Rattle.replay_model.specs.Taking.{call_of, offset_line, offsets, last_reports, offsets_told, kept_under, name_of, synced_at, synced_by, synced}
+use Rattle.replay_model.specs.Taking.{call_of, offset_line, offsets, last_reports, offsets_told, kept_under, synced_by, synced}
 use Rattle.lane_core.specs.declared.lane.Lane.{Lane}
-use Rattle.lane_core.specs.Lanes.{Base, Around, LaneTells, Replies, GoesOn, reported_at, replied_at}
+use Rattle.lane_core.specs.Lanes.{Base, LaneHolds, LaneTells, Replies, GoesOn, reported_at, replied_at}
 use Rattle.lane_core.specs.AllLanes.{LanesRest}
 use Rattle.lane_core.proofs.Placing.{around, one_tells, lanes_apart, lanes_opened}
 use Rattle.replay_model.proofs.Keeping.{same_opened}
@@ -219,3 +226,36 @@ is_none (Some x) never = absurd (never x refl)
 
 pub long : (ls : List Lane) (n : ℕ) (b : Lane) → n < length ls → n < length (set ls n b)
 long ls n b lt = omega (arith, lt, length-set ls n b)
+
+-- ---- the times of a reply
+
+held : (z : ℤ) → hold z < 2 ^ 63
+held (pos n) = omega arith
+held (negsuc n) = omega arith
+
+record HasTimes (ntp : ℕ) (info : SyncInfo) : Type 0 where
+  ntp_is : info.ntp_ns ≡ ntp
+  early : info.local < 2 ^ 63
+
+reported : (s : Settings) (h : History) (ntp rtp : ℕ) (info : SyncInfo) → report s h ntp rtp ≡ Some info → HasTimes ntp info
+reported s h ntp rtp info = by (is_flushing h) (estimate_of s (accepted h))
+  where
+    by : (b : Bool) (e : Option Estimate) → (if b then None else report_at s.rate ntp rtp e) ≡ Some info → HasTimes ntp info
+    by true e is = absurd cc
+    by false None is = absurd cc
+    by false (Some e) is =
+        let same : record { ntp_ns = ntp; local = other_time s.rate e rtp } ≡ info = cc in
+        subst (HasTimes ntp) same
+        (record { ntp_is = refl; early = held (pos e.base +ℤ sent_at s.rate e (ext32 e.latest rtp) +ℤ e.skew) })
+
+has_times : (was : Lane) (ntp rtp : ℕ) (reply : Option SyncInfo) (info : SyncInfo) (h : History) → Stands was.buffer h → Replies was ntp rtp reply → reply ≡ Some info → HasTimes ntp info
+has_times was ntp rtp reply info h stands replies is =
+    let opening : Opening = record { lane = was.number; session = was.session; ssrc = was.ssrc; settings = settings_of was.buffer } in
+    let holds : LaneHolds opening was.number was h = record { number_is = refl; session_is = refl; ssrc_is = refl; settings = refl; stands = stands } in
+    reported (settings_of was.buffer) h ntp rtp info (sym (replies opening was.number h holds) ∙ is)
+
+pub reply_ntp : (was : Lane) (ntp rtp : ℕ) (reply : Option SyncInfo) (info : SyncInfo) → Replies was ntp rtp reply → reply ≡ Some info → info.ntp_ns ≡ ntp
+reply_ntp was ntp rtp reply info replies is = ∥∥₁_elim was.counted (hlevel props) (λ x. (has_times was ntp rtp reply info x.0 x.1.stands replies is).ntp_is)
+
+pub reply_local : (was : Lane) (ntp rtp : ℕ) (reply : Option SyncInfo) (info : SyncInfo) → Replies was ntp rtp reply → reply ≡ Some info → info.local < 2 ^ 63
+reply_local was ntp rtp reply info replies is = ∥∥₁_elim was.counted (hlevel props) (λ x. (has_times was ntp rtp reply info x.0 x.1.stands replies is).early)

@@ -1,9 +1,8 @@
 -- Lanes that pass tick, in order; the steps of a record.
 use Rattle.std.proofs.Common.{ℕ, zero, suc, ◌≡◌, ◌≢◌, ◌+◌, ◌<◌, ◌≤◌, Bool, true, false, not, refl, sym, ap, subst, ◌∙◌, List, [], ◌∷◌, ◌++◌, length, arith}
-use Rattle.std.specs.Prelude.{All, ◌==◌, ◌||◌, nat_lt, nat_le, slice_get, if◌then◌else◌}
+use Rattle.std.specs.Prelude.{◌==◌, ◌||◌, nat_lt, nat_le, slice_get, if◌then◌else◌}
 use Rattle.std.specs.List.{list_any}
 use Rattle.std.proofs.lemmas.Grind.{common_steps}
-use Rattle.std.proofs.lemmas.List.Elements.{All-nil, All-cons}
 use Rattle.script_lang.specs.Contents.{Contents}
 use Rattle.timeline.specs.declared.line.BinLine.{BinLine}
 use Rattle.front_model.specs.declared.Opening.{Opening}
@@ -15,7 +14,7 @@ use Rattle.replay_model.specs.Events.{Timeline, Fronted, front, openings}
 use Rattle.replay_model.specs.Lanes.{lane_count, opening_or, opened}
 use Rattle.replay_model.specs.Turning.{ticked}
 use Rattle.replay_model.specs.Acting.{ticked_where}
-use Rattle.replay_model.specs.Taking.{touches, is_touched, stepped, all_stepped, fronted, taken}
+use Rattle.replay_model.specs.Taking.{touches, is_touched, stepped, all_stepped, taken}
 use Rattle.replay_model.proofs.Lanes.{by_cases}
 use Rattle.replay_model.proofs.Keeping.{where_yes, where_not, where_openings, all_stepped_grown, grown_count}
 use Rattle.lane_core.specs.Lanes.{Base}

@@ -1,5 +1,5 @@
 -- An agenda against the timeline that it stands for.
-use Rattle.std.specs.Prelude.{ℕ, ◌≡◌, ◌==◌, ◌+◌, Bool, List, Option, Some, None, if◌then◌else◌}
+use Rattle.std.specs.Prelude.{ℕ, ◌≡◌, ◌+◌, Bool, List, Option, Some, None}
 use Rattle.script_lang.specs.Contents.{Contents}
 use Rattle.timeline.specs.declared.line.BinLine.{BinLine}
 use Rattle.front_model.specs.Events.{ReportsDue}
@@ -26,10 +26,6 @@ pub record Holds (c : Contents) (base : Base) (agenda : Agenda) (told : List Bin
 -- how often something that is due up to a time can be served, at most
 abbrev pub left_in : ℕ → Agenda → ℕ
 left_in limit agenda = wakes_left limit agenda.stage.lanes.items + room limit agenda.next_report
-
--- the report time behind one, by their interval
-abbrev pub next_by : ℕ → ℕ → Option ℕ
-next_by interval time = if interval == 0 then None else Some (time + interval)
 
 -- what is due first of a timeline, of the reports, or of none
 abbrev pub due_first : Contents → Bool → ℕ → Timeline → Option Due

@@ -1,12 +1,9 @@
 -- A stage against the timeline that it stands for.
-use Rattle.std.specs.Prelude.{ℕ, zero, suc, ◌≡◌, ◌≢◌, ◌<◌, ◌≤◌, ◌^◌, Bool, true, false, not, List, [], ◌∷◌, ◌++◌, All, map, length, Some, slice_get, if◌then◌else◌}
+use Rattle.std.specs.Prelude.{ℕ, zero, suc, ◌≡◌, ◌≢◌, ◌<◌, ◌≤◌, Bool, true, false, not, List, [], ◌∷◌, ◌++◌, All, map, length, Some, slice_get, if◌then◌else◌}
 use Rattle.std.specs.List.{list_any}
 use Rattle.rtp_units.specs.declared.SyncInfo.{SyncInfo}
-use Rattle.jitter_model.specs.declared.Arrival.{Arrival}
-use Rattle.jitter_model.specs.declared.Settings.{Settings}
 use Rattle.jitter_model.specs.declared.Entry.TheVariants.{Ends}
 use Rattle.jitter_model.specs.History.{is_pusher, pusher_count}
-use Rattle.jitter_core.specs.Words.{pushes_of, settings_of}
 use Rattle.script_lang.specs.Contents.{Contents}
 use Rattle.script_lang.specs.declared.script.Action.{Action}
 use Rattle.timeline.specs.declared.line.BinLine.{BinLine}
@@ -26,7 +23,7 @@ use Rattle.replay_model.specs.Taking.{touches, stepped, all_stepped, call_of, of
 use Rattle.replay_model.specs.Acting.{ticked_where}
 use Rattle.replay_model.specs.Ending.{pushers_ended, all_ended}
 use Rattle.replay_model.specs.Log.{with_done}
-use Rattle.lane_core.specs.declared.lane.Lane.{Lane}
+use Rattle.replay_sound.specs.Suited.{counts_none}
 use Rattle.lane_core.specs.Lanes.{Base, Adds as AddsLines}
 use Rattle.lane_core.specs.AllLanes.{LanesRest, all_resting, resting_and, wakes_in}
 use Rattle.bin_core.specs.declared.standings.Standing.{Standing}
@@ -43,15 +40,6 @@ standing c session tl =
 abbrev pub standing_by : Action → ℕ → Standing → Standing
 standing_by a session s =
     record { latency = latency_by session a s.latency; flushing = flushing_by session a s.flushing }
-
--- ---- lines
-
--- a line that counts nothing in the last line
-abbrev pub counts_none : BinLine → Bool
-counts_none (line.Out t l n pts pt marker len bytes) = false
-counts_none (line.Lost t l n count pts duration) = false
-counts_none (line.Refuse t l seq kind why) = false
-counts_none x = true
 
 -- ---- requests
 
@@ -156,21 +144,6 @@ Keeps t l name info old new before after =
     × (after ≡ before
     ++ map (offset_line t) (offsets name (last_reports (call_of l name info ∷ calls) n)))
 
--- ---- what a lane can take
-
-pub record CanPush (a : Arrival) (l : Lane) : Type 0 where
-  pub pusher : is_pusher (settings_of l.buffer).pushers a.pusher ≡ true
-  pub stamp : a.stamp < 2 ^ 63
-  pub few : pushes_of l.buffer < 2 ^ 31
-
-pub record HasTimes (s : Settings) : Type 0 where
-  pub rate_from : 1 ≤ s.rate
-  pub rate_to : s.rate ≤ 1000000
-  pub latency_to : s.latency ≤ 600000000000
-  pub rtx_delay_to : s.rtx_delay ≤ 60000000000
-  pub rtx_retry_from : 1000000 ≤ s.rtx_retry
-  pub rtx_retry_to : s.rtx_retry ≤ 60000000000
-
 -- ---- one lane of all
 
 abbrev pub Ticks : ℕ → ℕ → Stage → Stage → List BinLine → List BinLine → Type 0
@@ -219,6 +192,14 @@ Begins c stage =
     → StageTells c (record { before = before; log = [] }) all_resting stage before []
 
 -- ---- steps that only tell
+
+-- Each tells a line that counts nothing in the last line.
+abbrev pub AreQuiet : List Step → Type 0
+AreQuiet [] = Unit {0}
+AreQuiet (step.Tell x ∷ xs) = (counts_none x ≡ true) × AreQuiet xs
+AreQuiet (step.Open o ∷ xs) = ⊥
+AreQuiet (step.Push l a ∷ xs) = ⊥
+AreQuiet (step.Sync l r ∷ xs) = ⊥
 
 -- Steps tell these lines, and do nothing else.
 abbrev pub AreTold : List Step → List BinLine → Type 0

@@ -1,4 +1,6 @@
 //! The bin: records and items in order of time, and what is due between them.
+ghost use Rattle.bin_core.specs.Known.{IsKnown};
+
 use crate::agenda::Agenda;
 use pcap_file::PcapRecord;
 use replay_model::laws::{serves_all, serves_in_parts};
@@ -6,6 +8,9 @@ use rtp_units::OutOfMemory;
 use script_lang::{Item, Script};
 use std::alloc::Global;
 use timeline::Lines;
+
+/// The most records of a capture.
+pub const MAX_RECORDS: u64 = 100_000_000;
 
 /// The sessions of a script, with a lane for each of their streams, at most 64 of them.
 ///
@@ -21,6 +26,7 @@ pub struct Bin {
     ahead: bool,
     finished: bool,
     broken: bool,
+    ghost known: { ∥ IsKnown broken finished records agenda ∥₁ },
 }
 
 impl Bin {

@@ -5,14 +5,13 @@
 mod agenda;
 mod bin;
 mod offsets;
-mod ranges;
 mod requests;
+mod room;
 mod stage;
 mod standings;
 mod touched;
 
-pub use bin::Bin;
-pub use stage::MAX_RECORDS;
+pub use bin::{Bin, MAX_RECORDS};
 pub use timeline::{BinLine, Lines, Word};
 
 #[cfg(test)]

@@ -1,28 +1,20 @@
 //! What a bin keeps of sessions and lanes, and how it goes on.
-ghost use Rattle.std.specs.Prelude.{◌≡◌, ◌++◌, ◌∷◌, [], true, OnOk};
-ghost use Rattle.bin_core.specs.Stages.{TellsAll, counts_none as counts_none_of};
+ghost use Rattle.std.specs.Prelude.{OnOk};
+ghost use Rattle.bin_core.specs.Stages.{AreQuiet, TellsAll};
 
 use crate::offsets::keep;
-use crate::ranges::{can_push, counts_none, is_valid};
 use crate::requests::send;
 use crate::standings::{Standing, after};
-use crate::touched::{lanes_for, passes, touched_lanes};
+use crate::touched::{mark_meant, passes};
 use front_model::{Opening, SenderReport, Step};
-use jitter_model::Arrival;
-use lane_core::{Lane, MAX_LANES, control, done_line, open};
+use lane_core::{Lane, control, done_line, open};
 use ntp_sync::LaneSync;
-use pcap_file::PcapRecord;
+use replay_sound::laws::{reports_only_tell, scripts_are_sound, steps_suit_a_bin};
 use rtp_front::Front;
 use rtp_units::OutOfMemory;
 use script_lang::{Item, Script};
 use std::alloc::Global;
-use timeline::{BinLine, Lines};
-
-/// The most records of a capture.
-pub const MAX_RECORDS: u64 = 100_000_000;
-
-/// The longest latency, in nanoseconds.
-const MAX_LATENCY: u64 = 600_000_000_000;
+use timeline::Lines;
 
 /// The pushers of a lane are numbers below this: the sessions and the script.
 const PUSHER_COUNT: u8 = 9;
@@ -30,7 +22,7 @@ const PUSHER_COUNT: u8 = 9;
 /// The front, the lanes by their numbers, the reports of lanes under their sources' CNAMEs, and how
 /// the sessions stand.
 ///
-/// What a front gives fits the lanes. Where it didn't, the calls would answer want of memory.
+/// What the front of a script gives fits the lanes, so nothing of it is tested.
 #[derive(Drop)]
 pub struct Stage {
     pub front: Front,
@@ -42,22 +34,27 @@ pub struct Stage {
 impl Stage {
     ghost use Rattle.std.specs.Prelude.{◌≡◌, ◌<◌, ◌≤◌, ◌+◌, ◌^◌, length, true};
     ghost use Rattle.std.specs.Prelude.{IfOk, OnOk};
+    ghost use Rattle.std.specs.Prelude.{ℕ, List, [], ◌∷◌};
     ghost use Rattle.jitter_model.specs.Laws.{IsLater};
-    ghost use Rattle.pcap_file.specs.Reading.{record_view};
-    ghost use Rattle.front_model.specs.Events.{Came, ReportsDue};
-    ghost use Rattle.front_model.specs.declared.Step.TheVariants.{Open, Push, Sync};
+    ghost use Rattle.front_model.specs.Events.{ReportsDue};
+    ghost use Rattle.front_model.specs.declared.Step.{Step as StepOf};
+    ghost use Rattle.front_model.specs.declared.Step.TheVariants.{Open, Sync};
     ghost use Rattle.lane_core.specs.AllLanes.{wakes_in};
     ghost use Rattle.replay_model.specs.Fitting.{IsItem};
-    ghost use Rattle.replay_model.specs.Taking.{fronted, taken};
+    ghost use Rattle.replay_model.specs.Taking.{fronted};
     ghost use Rattle.replay_model.specs.Log.{with_item};
     ghost use Rattle.bin_core.specs.Stages.{Begins, GoesOn, Does, DoesAll, TicksWhere};
     ghost use Rattle.bin_core.specs.Stages.{Ticks, EndsOne, EndsLane, EndsAll, Finishes};
     ghost use Rattle.bin_core.specs.Stages.{SameButOne, SameWakes};
+    ghost use Rattle.bin_core.specs.Underway.{Owes, IsAtRest, StaysAtRest};
 
     /// A stage before anything came.
     pub fn new(alloc: Global, script: &Script) -> Result<Stage, OutOfMemory>
-        ensures { IfOk result (Begins script.now) }
+        ensures stands { IfOk result (Begins script.now) }
+        ensures rests { IfOk result (Owes 0 []) }
     {
+        // A law for the proof; the call does nothing.
+        scripts_are_sound();
         let standing = Standing {
             latency: script.settings.latency,
             flushing: false,
@@ -73,71 +70,56 @@ impl Stage {
         })
     }
 
-    /// Takes a record that comes at `time` nanoseconds; the lanes that it touches take turns.
-    pub fn take_record(
+    /// Tells the reports of all sessions.
+    pub fn report(
         &mut self,
         alloc: Global,
         time: u64,
-        link: u16,
-        rec: &PcapRecord,
+        steps: &mut Vec<Step>,
         lines: &mut Lines,
     ) -> Result<(), OutOfMemory>
-        requires small { time < 2 ^ 63 }
-        ensures { OnOk result (GoesOn self.old self.new lines.old lines.new
-            (λ c. taken c time (Came time (record_view link rec.now)))) }
-    {
-        if self.front.taken() >= MAX_RECORDS {
-            return Err(OutOfMemory);
-        }
-        let mut steps = Vec::new(alloc);
-        self.front.take(alloc, time, link, rec, &mut steps)?;
-        let touched = touched_lanes(alloc, self.lanes.len(), steps.as_slice())?;
-        self.walk(alloc, time, steps, lines)?;
-        self.tick_where(alloc, time, touched.as_slice(), lines)
-    }
-
-    /// Tells the reports of all sessions.
-    pub fn report(&mut self, alloc: Global, time: u64, lines: &mut Lines) -> Result<(), OutOfMemory>
+        requires { IsAtRest self.old }
         ensures stands { OnOk result (GoesOn self.old self.new lines.old lines.new
             (λ c. fronted c time (ReportsDue time))) }
         ensures same { OnOk result (SameWakes self.old self.new) }
+        ensures rests { OnOk result (StaysAtRest self.old self.new) }
     {
-        let mut steps = Vec::new(alloc);
-        self.front.report(alloc, time, &mut steps)?;
+        // Laws for the proof; the calls do nothing.
+        steps_suit_a_bin();
+        scripts_are_sound();
+        reports_only_tell();
+        steps.clear();
+        self.front.report(alloc, time, steps)?;
         tell_all(steps, lines)
     }
 
-    // Does steps of the front in order.
-    fn walk(
+    /// Does the steps that are owed, in order, and leaves none of them.
+    pub fn walk(
         &mut self,
         alloc: Global,
         time: u64,
-        steps: Vec<Step>,
+        steps: &mut Vec<Step>,
         lines: &mut Lines,
     ) -> Result<(), OutOfMemory>
-        ensures { OnOk result (DoesAll time steps.items self.old self.new lines.old lines.new) }
+        requires { (n : ℕ) × Owes n steps.old.items self.old }
+        ensures does { OnOk result (DoesAll time steps.old.items self.old self.new
+            lines.old lines.new) }
+        ensures rests { OnOk result ((n : ℕ) → Owes n steps.old.items self.old
+            → Owes n [] self.new) }
     {
-        for step in steps {
-            self.step(alloc, time, step, lines)?;
+        for step in steps.drain(..) {
+            match step {
+                Step::Tell(line) => lines.push(line)?,
+                Step::Open(opening) => self.open_lane(alloc, time, &opening, lines)?,
+                Step::Push { lane, arrival } => {
+                    self.lanes[usize::from(lane)].push(time, arrival, lines)?;
+                }
+                Step::Sync { lane, report } => {
+                    self.synchronise(alloc, time, lane, &report, lines)?;
+                }
+            }
         }
         Ok(())
-    }
-
-    fn step(
-        &mut self,
-        alloc: Global,
-        time: u64,
-        step: Step,
-        lines: &mut Lines,
-    ) -> Result<(), OutOfMemory>
-        ensures { OnOk result (Does time step self.old self.new lines.old lines.new) }
-    {
-        match step {
-            Step::Tell(line) => tell(line, lines),
-            Step::Open(opening) => self.open_lane(alloc, time, &opening, lines),
-            Step::Push { lane, arrival } => self.push(time, lane, arrival, lines),
-            Step::Sync { lane, report } => self.synchronise(alloc, time, lane, &report, lines),
-        }
     }
 
     // A lane begins.
@@ -148,21 +130,13 @@ impl Stage {
         opening: &Opening,
         lines: &mut Lines,
     ) -> Result<(), OutOfMemory>
-        ensures { OnOk result (Does time (Open opening.now) self.old self.new
+        requires { (n : ℕ) × (more : List StepOf) × Owes n (Open opening.now ∷ more) self.old }
+        ensures does { OnOk result (Does time (Open opening.now) self.old self.new
             lines.old lines.new) }
+        ensures owes { OnOk result ((n : ℕ) (more : List StepOf)
+            → Owes n (Open opening.now ∷ more) self.old → Owes n more self.new) }
     {
-        let number = self.lanes.len();
-        if number >= MAX_LANES
-            || usize::from(opening.lane) != number
-            || opening.session >= 8
-            || !is_valid(opening.settings)
-        {
-            return Err(OutOfMemory);
-        }
         let Standing { latency, flushing } = self.standings[usize::from(opening.session)];
-        if latency > MAX_LATENCY {
-            return Err(OutOfMemory);
-        }
         open(
             &mut self.lanes,
             alloc,
@@ -174,28 +148,6 @@ impl Stage {
         )
     }
 
-    // A packet comes to a lane.
-    fn push(
-        &mut self,
-        time: u64,
-        lane: u8,
-        arrival: Arrival,
-        lines: &mut Lines,
-    ) -> Result<(), OutOfMemory>
-        ensures { OnOk result (Does time (Push lane arrival) self.old self.new
-            lines.old lines.new) }
-    {
-        let number = usize::from(lane);
-        if number >= self.lanes.len() {
-            return Err(OutOfMemory);
-        }
-        let to = &mut self.lanes[number];
-        if !can_push(to, &arrival) {
-            return Err(OutOfMemory);
-        }
-        to.push(time, arrival, lines)
-    }
-
     // A sender report comes to a lane, and is kept under the CNAME of the lane's source.
     fn synchronise(
         &mut self,
@@ -205,14 +157,13 @@ impl Stage {
         report: &SenderReport,
         lines: &mut Lines,
     ) -> Result<(), OutOfMemory>
-        ensures { OnOk result (Does time (Sync lane report.now) self.old self.new
+        requires { (n : ℕ) × (more : List StepOf) × Owes n (Sync lane report.now ∷ more) self.old }
+        ensures does { OnOk result (Does time (Sync lane report.now) self.old self.new
             lines.old lines.new) }
+        ensures owes { OnOk result ((n : ℕ) (more : List StepOf)
+            → Owes n (Sync lane report.now ∷ more) self.old → Owes n more self.new) }
     {
-        let number = usize::from(lane);
-        if number >= self.lanes.len() {
-            return Err(OutOfMemory);
-        }
-        let to = &mut self.lanes[number];
+        let to = &mut self.lanes[usize::from(lane)];
         let (session, ssrc) = (to.session, to.ssrc);
         let Some(info) = to.sync(time, report, lines)? else {
             return Ok(());
@@ -220,9 +171,6 @@ impl Stage {
         let Some(name) = self.front.cname(session, ssrc) else {
             return Ok(());
         };
-        if info.ntp_ns >= 1 << 63 || info.local >= 1 << 63 {
-            return Err(OutOfMemory);
-        }
         keep(&mut self.sync, alloc, time, lane, name, info, lines)
     }
 
@@ -239,6 +187,7 @@ impl Stage {
         ensures stands { OnOk result (Ticks time number self.old self.new lines.old lines.new) }
         ensures same { SameButOne number self.old self.new }
         ensures later { OnOk result (IsLater time (wakes_in self.new.lanes.items number)) }
+        ensures rests { OnOk result (StaysAtRest self.old self.new) }
     {
         let lane = &mut self.lanes[number];
         let numbers = lane.tick(alloc, time, lines)?;
@@ -254,8 +203,8 @@ impl Stage {
         )
     }
 
-    // The lanes that pass tick, in order.
-    fn tick_where(
+    /// The lanes that pass tick, in order.
+    pub fn tick_where(
         &mut self,
         alloc: Global,
         time: u64,
@@ -263,8 +212,9 @@ impl Stage {
         lines: &mut Lines,
     ) -> Result<(), OutOfMemory>
         requires time { time < 2 ^ 63 + 2 ^ 50 }
-        ensures { OnOk result (TicksWhere time touched.now self.old self.new
+        ensures ticks { OnOk result (TicksWhere time touched.now self.old self.new
             lines.old lines.new) }
+        ensures rests { OnOk result (StaysAtRest self.old self.new) }
     {
         for number in 0..self.lanes.len() {
             if passes(touched, number) {
@@ -279,15 +229,17 @@ impl Stage {
         &mut self,
         alloc: Global,
         item: &Item,
+        touched: &mut Vec<bool>,
         lines: &mut Lines,
     ) -> Result<(), OutOfMemory>
         requires { IsItem item.now }
-        ensures { OnOk result (GoesOn self.old self.new lines.old lines.new
+        ensures stands { OnOk result (GoesOn self.old self.new lines.old lines.new
             (λ c. with_item c item.now)) }
+        ensures rests { OnOk result (StaysAtRest self.old self.new) }
     {
         self.standings = after(self.standings, item.action);
         control(&mut self.lanes, item, lines)?;
-        let touched = lanes_for(alloc, item.action, self.lanes.as_slice())?;
+        mark_meant(touched, item.action, self.lanes.as_slice())?;
         self.tick_where(alloc, item.time, touched.as_slice(), lines)
     }
 
@@ -344,7 +296,8 @@ impl Stage {
 
     // All lanes end.
     fn end_all(&mut self, alloc: Global, time: u64, lines: &mut Lines) -> Result<(), OutOfMemory>
-        ensures { OnOk result (EndsAll time self.old self.new lines.old lines.new) }
+        ensures stands { OnOk result (EndsAll time self.old self.new lines.old lines.new) }
+        ensures same { length self.new.lanes.items ≡ length self.old.lanes.items }
     {
         for number in 0..self.lanes.len() {
             self.end_lane(alloc, time, number, lines)?;
@@ -354,36 +307,24 @@ impl Stage {
 
     /// All lanes end, and the last line is told.
     pub fn finish(&mut self, alloc: Global, time: u64, lines: &mut Lines) -> Result<(), OutOfMemory>
+        requires { IsAtRest self.old }
         ensures { OnOk result (Finishes time self.old lines.old lines.new) }
     {
         self.end_all(alloc, time, lines)?;
-        if self.lanes.len() > MAX_LANES {
-            return Err(OutOfMemory);
-        }
         lines.push(done_line(self.lanes.as_slice(), self.front.taken()))
     }
 }
 
-// Tells a line of the front.
-fn tell(line: BinLine, lines: &mut Lines) -> Result<(), OutOfMemory>
-    ensures none { OnOk result (counts_none_of line ≡ true) }
-    ensures told { OnOk result (lines.new ≡ lines.old ++ line ∷ []) }
+// Tells the lines of steps that only tell, and leaves none of them.
+fn tell_all(steps: &mut Vec<Step>, lines: &mut Lines) -> Result<(), OutOfMemory>
+    requires { ∥ AreQuiet steps.old.items ∥₁ }
+    ensures { OnOk result (TellsAll steps.old.items lines.old lines.new) }
 {
-    if !counts_none(&line) {
-        return Err(OutOfMemory);
-    }
-    lines.push(line)
-}
-
-// Does steps that only tell.
-fn tell_all(steps: Vec<Step>, lines: &mut Lines) -> Result<(), OutOfMemory>
-    ensures { OnOk result (TellsAll steps.items lines.old lines.new) }
-{
-    for step in steps {
-        match step {
-            Step::Tell(line) => tell(line, lines)?,
-            Step::Open(_) | Step::Push { .. } | Step::Sync { .. } => return Err(OutOfMemory),
-        }
+    for step in steps.drain(..) {
+        let Step::Tell(line) = step else {
+            unreachable!()
+        };
+        lines.push(line)?;
     }
     Ok(())
 }

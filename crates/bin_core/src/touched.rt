@@ -1,5 +1,5 @@
 //! Which lanes tick.
-ghost use Rattle.std.specs.Prelude.{◌≡◌, ◌<◌, ℕ, length, get_or, IfOk};
+ghost use Rattle.std.specs.Prelude.{◌≡◌, ◌<◌, ℕ, length, get_or, OnOk};
 ghost use Rattle.std.specs.List.{list_any};
 ghost use Rattle.replay_model.specs.Acting.{is_for};
 ghost use Rattle.replay_model.specs.Taking.{touches as touches_of, is_touched};
@@ -10,7 +10,6 @@ use front_model::Step;
 use lane_core::Lane;
 use rtp_units::OutOfMemory;
 use script_lang::Action;
-use std::alloc::Global;
 
 /// Whether a lane ticks: one for which nothing is said does.
 pub fn passes(touched: &[bool], lane: usize) -> bool
@@ -37,16 +36,16 @@ fn is_given(steps: &[Step], lane: usize) -> bool
     steps.iter().any(|step| touches(step, lane))
 }
 
-/// The lanes, of so many, that steps of a front give something.
-pub fn touched_lanes(alloc: Global, count: usize, steps: &[Step]) -> Result<Vec<bool>, OutOfMemory>
-    ensures { IfOk result (λ touched. (k : ℕ)
-        → passes_by touched.items k ≡ is_touched count steps.now k) }
+/// Marks the lanes, of so many, that steps of a front give something, in place of what was marked.
+pub fn mark_given(touched: &mut Vec<bool>, count: usize, steps: &[Step]) -> Result<(), OutOfMemory>
+    ensures { OnOk result ((k : ℕ)
+        → passes_by touched.new.items k ≡ is_touched count steps.now k) }
 {
-    let mut touched = Vec::new(alloc);
+    touched.clear();
     for lane in 0..count {
         touched.push(is_given(steps, lane))?;
     }
-    Ok(touched)
+    Ok(())
 }
 
 fn is_for_session(action: Action, session: u8) -> bool
@@ -60,14 +59,18 @@ fn is_for_session(action: Action, session: u8) -> bool
     }
 }
 
-/// The lanes that an action is for.
-pub fn lanes_for(alloc: Global, action: Action, lanes: &[Lane]) -> Result<Vec<bool>, OutOfMemory>
-    ensures { IfOk result (λ touched. (k : ℕ) (d : LaneOf) → k < length lanes.now
-        → passes_by touched.items k ≡ is_for action (get_or lanes.now k d).session) }
+/// Marks the lanes that an action is for, in place of what was marked.
+pub fn mark_meant(
+    touched: &mut Vec<bool>,
+    action: Action,
+    lanes: &[Lane],
+) -> Result<(), OutOfMemory>
+    ensures { OnOk result ((k : ℕ) (d : LaneOf) → k < length lanes.now
+        → passes_by touched.new.items k ≡ is_for action (get_or lanes.now k d).session) }
 {
-    let mut touched = Vec::new(alloc);
+    touched.clear();
     for lane in lanes {
         touched.push(is_for_session(action, lane.session))?;
     }
-    Ok(touched)
+    Ok(())
 }

@@ -6,7 +6,9 @@ use Rattle.std.proofs.Props.{props}
 use Rattle.jitter_model.specs.declared.Arrival.{Arrival}
 use Rattle.jitter_model.specs.declared.Settings.{Settings}
 use Rattle.jitter_model.specs.declared.Turn.TheVariants as reply
+use Rattle.jitter_model.specs.declared.Held.{Held}
 use Rattle.jitter_model.specs.History.{History, all_ended}
+use Rattle.jitter_model.specs.Times.{held}
 use Rattle.jitter_model.specs.Turns.{turn, wake_of}
 use Rattle.jitter_model.specs.Runs.{Run}
 use Rattle.jitter_model.specs.Laws.{IsBelow}
@@ -111,6 +113,13 @@ wake_small p s t law kept e =
 
 pub all_ended_state : (p : Plan) (s : Lane) (b : Bool) → IsKept p s → ((h : History) → Stands s.buffer h → b ≡ all_ended (settings_of s.buffer) h) → b ≡ all_ended (lane_in p s).settings (history p s)
 all_ended_state p s b kept law = ∥∥₁_elim kept (hlevel props) (λ k. law (history p s) k.stands ∙ ap (λ (x : Settings). all_ended x (history p s)) k.settings)
+
+pub store_state : (p : Plan) (s : Lane) (get : ℕ → Option Held) → IsKept p s
+    → ((h : History) → Stands s.buffer h → (n : ℕ) → get n ≡ held (settings_of s.buffer) h n)
+    → (n : ℕ) → get n ≡ held (lane_in p s).settings (history p s) n
+store_state p s get kept law n =
+    ∥∥₁_elim kept (hlevel props) (λ k. law (history p s) k.stands n
+    ∙ ap (λ (x : Settings). held x (history p s) n) k.settings)
 
 -- ---- a new lane
 

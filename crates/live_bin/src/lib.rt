@@ -4,6 +4,7 @@
 
 mod checking;
 mod copying;
+mod course;
 mod entry;
 mod history;
 mod lane;
@@ -12,6 +13,7 @@ mod state;
 #[cfg(test)]
 mod tests;
 
+pub use course::{Course, Route};
 pub use entry::{Entry, Next};
 pub use history::LaneHistory;
 pub use plan::{ControlEvent, Delivery, Events, Lanes, Plan, PlanLane, Queue, Queues};

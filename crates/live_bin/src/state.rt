@@ -7,10 +7,11 @@ use crate::entry::{Entry, Next};
 use crate::history::LaneHistory;
 use crate::lane::{Lane, Progress, control_on, deliver_on, ends_on, tick_on, turn_on};
 use crate::plan::Plan;
-use jitter_core::Buffer;
 use jitter_core::laws::{
     rests_after_the_end, rests_when_done, turns_run_out, wakes_are_bounded, wakes_are_right,
 };
+use jitter_core::{Buffer, Held};
+use packet_store::Store;
 use rtp_units::OutOfMemory;
 use std::alloc::Global;
 use std::marker::{Brand, PhantomData};
@@ -43,6 +44,8 @@ impl<K: Run> LaneState<K> {
     ghost use Rattle.std.specs.Prelude.{false, Some, length, is_some, IfOk, OnOk, OnErr};
     ghost use Rattle.jitter_model.specs.declared.Turn.TheVariants.{Idle};
     ghost use Rattle.jitter_model.specs.History.{all_ended, end_told, is_pusher};
+    ghost use Rattle.jitter_model.specs.Times.{held};
+    ghost use Rattle.std.specs.FinMap as map;
     ghost use Rattle.live_bin.specs.declared.entry.Entry.TheVariants.{Clock};
     ghost use Rattle.live_bin.specs.declared.entry.Next.TheVariants.{Wait};
     ghost use Rattle.live_bin.specs.Steps.{IsSame, ended_of, left_for, next_delivery};
@@ -209,6 +212,14 @@ impl<K: Run> LaneState<K> {
         self.lane.buffer.all_ended()
     }
 
+    /// The held packets, each under its extended sequence number.
+    pub fn store(&self) -> &Store<Held>
+        ensures { (n : ℕ) → map.get result.now n ≡ held (lane_in K.plan self.now.lane).settings
+            (history K.plan self.now.lane) n }
+    {
+        self.lane.buffer.store()
+    }
+
     // Gives the buffer all events of the control list that are left.
     fn give_controls(&mut self, plan: &Plan) -> Result<(), OutOfMemory>
         requires plan { plan.now ≡ K.plan }
@@ -237,8 +248,8 @@ impl<K: Run> LaneState<K> {
         }
     }
 
-    // Gives the buffer all that is left of the control list, and ends the control.
-    fn end_control(&mut self, plan: &Plan) -> Result<(), OutOfMemory>
+    /// Gives the buffer all that is left of the control list, and ends the control.
+    pub fn end_control(&mut self, plan: &Plan) -> Result<(), OutOfMemory>
         requires plan { plan.now ≡ K.plan }
         ensures ended { OnOk result (is_pusher (lane_in plan.now self.old.lane).settings.pushers 8
             ≡ true → ended_of self.new.lane.progress 8 ≡ true) }
@@ -249,8 +260,8 @@ impl<K: Run> LaneState<K> {
         Ok(())
     }
 
-    // Gives the buffer all that is left of a session, and ends it.
-    fn end_session(&mut self, plan: &Plan, pusher: u8) -> Result<(), OutOfMemory>
+    /// Gives the buffer all that is left of a session, and ends it. `pusher` is from 0 to 7.
+    pub fn end_session(&mut self, plan: &Plan, pusher: u8) -> Result<(), OutOfMemory>
         requires plan { plan.now ≡ K.plan }
         requires session { pusher < 8 }
         ensures ended { OnOk result (is_pusher (lane_in plan.now self.old.lane).settings.pushers

@@ -6,6 +6,7 @@ use Rattle.script_lang.specs.Contents.{Contents}
 use Rattle.timeline.specs.declared.line.BinLine.{BinLine}
 use Rattle.replay_model.specs.Inputs.{Input}
 use Rattle.replay_model.specs.Events.{Event, Timeline}
+use Rattle.replay_model.specs.Ending.{closed}
 use Rattle.replay_model.specs.Lines.{lines, event_lines}
 use Rattle.replay_model.specs.Log.{with_input, timeline, whole_timeline, log_part, log, done_of, Begins}
 use Rattle.replay_model.proofs.Extending.{Extends, ext_then, input_extend, timeline_extend, closed_extend}
@@ -36,3 +37,6 @@ whole c xs more =
     let g : Begins (log_part c xs) (lines all) =
     begins (timeline c (reverse xs)) all (ext_then (timeline c (reverse xs)) (timeline c (reverse (xs ++ more))) all (part_extends c xs more) (closed_extend c (timeline c (reverse (xs ++ more))))) in
     (g.0 ++ done_of all ∷ [], ap (λ (x : List BinLine). x ++ done_of all ∷ []) g.1 ∙ append_assoc (log_part c xs) g.0 (done_of all ∷ []))
+
+pub ending : (c : Contents) (tl : Timeline) → Begins (lines tl) (lines (closed c tl))
+ending c tl = begins tl (closed c tl) (closed_extend c tl)

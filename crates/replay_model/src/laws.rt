@@ -17,6 +17,7 @@ ghost use Rattle.replay_model.specs.declared.TheConstants.{END_OF_TIME as LAST};
 ghost use Rattle.replay_model.specs.Lines.{lines};
 ghost use Rattle.replay_model.specs.Log.{served, timeline, whole_timeline, log_part, log, Begins};
 ghost use Rattle.replay_model.specs.Log.{with_input};
+ghost use Rattle.replay_model.specs.Ending.{closed};
 ghost use Rattle.jitter_model.specs.Runs.{Run};
 ghost use Rattle.replay_model.specs.Lanes.{opened};
 ghost use Rattle.replay_model.specs.Fitting.{IsSound, IsReplay};
@@ -37,6 +38,11 @@ pub fn goes_on()
         → Begins (log_part c xs) (log_part c (xs ++ more)) }
     ensures whole { (c : Contents) (xs more : List Input)
         → Begins (log_part c xs) (log c (xs ++ more)) }
+{}
+
+/// What is told up to the last input begins what is told up to the end.
+pub fn the_end_goes_on()
+    ensures { (c : Contents) (tl : Timeline) → Begins (lines tl) (lines (closed c tl)) }
 {}
 
 /// The inputs of some records begin those of them and more. The next record comes behind the items

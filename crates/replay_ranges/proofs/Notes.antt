@@ -73,13 +73,13 @@ IsNote (Holds k) = Unit {0}
 IsNote (Drops k why) = Unit {0}
 IsNote (Releases k) = IsKept k
 IsNote (NewName ssrc name) = Unit {0}
-IsNote (Synced ssrc ntp rtp) = (ntp < 2 ^ 64) × (rtp < 2 ^ 32)
+IsNote (Synced ssrc ntp rtp) = (ntp < 2 ^ 63) × (rtp < 2 ^ 32)
 IsNote (Stray ssrc) = Unit {0}
 IsNote (Left ssrc) = Unit {0}
 IsNote (Gone ssrc) = Unit {0}
 IsNote (Says bytes) = Unit {0}
 
-ntp_small : (seconds fraction : ℕ) → seconds < 2 ^ 32 → fraction < 2 ^ 32 → ntp_time seconds fraction < 2 ^ 64
+ntp_small : (seconds fraction : ℕ) → seconds < 2 ^ 32 → fraction < 2 ^ 32 → ntp_time seconds fraction < 2 ^ 63
 ntp_small seconds fraction s f = omega (arith, s, f)
 
 packet_each : (ks : List Kept) (k : Kept) (r : Result Heard Refuse) → AllByRecursion IsKept ks → IsKept k → AllByRecursion IsNote (packet_notes ks k r)

@@ -161,7 +161,7 @@ fate_ranged c time older session stamp p (Dropped why) small early few h = (tt, 
 fate_ranged c time older session stamp p (Goes lane kind q) small early few h =
     (record { pusher = omega (arith, small); k = few (session, lane); stamp = early; seq = h.0; rtp = h.1; pt = h.2; payload = h.3 }, tt)
 
-sync_ranged : (c : Contents) (older : List Move) (session ntp rtp : ℕ) (o : Option ℕ) → ntp < 2 ^ 64 → rtp < 2 ^ 32 → AreRanged (sync_steps c older session ntp rtp o)
+sync_ranged : (c : Contents) (older : List Move) (session ntp rtp : ℕ) (o : Option ℕ) → ntp < 2 ^ 63 → rtp < 2 ^ 32 → AreRanged (sync_steps c older session ntp rtp o)
 sync_ranged c older session ntp rtp None n r = tt
 sync_ranged c older session ntp rtp (Some lane) n r = ((n, r), tt)
 

@@ -13,7 +13,7 @@ abbrev pub IsRanged : Step → Type 0
 IsRanged (step.Tell line) = Unit {0}
 IsRanged (step.Open o) = Unit {0}
 IsRanged (step.Push l a) = IsInRange a
-IsRanged (step.Sync l r) = (r.ntp_ns < 2 ^ 64) × (r.rtp < 2 ^ 32)
+IsRanged (step.Sync l r) = (r.ntp_ns < 2 ^ 63) × (r.rtp < 2 ^ 32)
 
 abbrev pub AreRanged : List Step → Type 0
 AreRanged [] = Unit {0}

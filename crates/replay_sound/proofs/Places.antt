@@ -20,6 +20,11 @@ place_below c n [] k s e = absurd cc
 place_below c n (x ∷ a) zero s e = omega arith
 place_below c n (x ∷ a) (suc k) s e = omega (arith, place_below c (n + 1) a k s e)
 
+-- one opening for each lane
+pub as_many : (c : Contents) (n : ℕ) (a : List Sight) → length (openings c n a) ≡ length a
+as_many c n [] = refl
+as_many c n (x ∷ a) = omega (arith, as_many c (n + 1) a)
+
 -- what is put behind all stands at their count
 pub last_at : (a : List Sight) (s : Sight) → slice_get (a ++ s ∷ []) (length a) ≡ Some s
 last_at [] s = refl

@@ -13,7 +13,6 @@ use Rattle.rtx.specs.Restoring.{restored}
 use Rattle.rtx.specs.declared.receiver.Original.{Original}
 use Rattle.rtx.specs.declared.answers.RtxFault.{RtxFault}
 use Rattle.jitter_model.specs.History.{is_pusher}
-use Rattle.jitter_model.specs.Runs.{IsValid}
 use Rattle.source_table.specs.Table.{gone, expired, blocks}
 use Rattle.timeline.specs.declared.line.Word.{Word}
 use Rattle.timeline.specs.Words.{rtcp_word}
@@ -35,9 +34,10 @@ use Rattle.front_model.specs.Restoring.{original}
 use Rattle.front_model.specs.Steps.{pushers, route_steps, lane_steps, stream_steps, fate_steps, release_steps, sync_steps, note_steps, notes_steps, bad_steps, record_steps, report_time_steps, steps, all_steps}
 use Rattle.front_model.specs.Laws.{opening, openings}
 use Rattle.replay_model.specs.Fitting.{with_step, with_steps}
+use Rattle.replay_sound.specs.Suited.{counts_none, IsNext, OnlyTell}
 use Rattle.replay_sound.proofs.Choosing.{valid_settings, own_pushes, repeats_push}
 use Rattle.replay_sound.proofs.Lines.{IsRate, rate_is, IsOfSession, session_is}
-use Rattle.replay_sound.proofs.Places.{opening_at, place_below, last_at, one_from, lane_at, rate_found}
+use Rattle.replay_sound.proofs.Places.{as_many, opening_at, place_below, last_at, one_from, lane_at, rate_found}
 use Rattle.replay_sound.proofs.Origins.{original_repeats}
 
 -- ---- a step that fits but for ranges
@@ -48,8 +48,8 @@ pub record IsTaken (os : List Opening) (l pusher : ℕ) : Type 0 where
   pub pushes : is_pusher opening.settings.pushers pusher ≡ true
 
 abbrev pub IsPlaced : List Opening → Step → Type 0
-IsPlaced os (step.Tell line) = Unit {0}
-IsPlaced os (step.Open o) = IsValid o.settings
+IsPlaced os (step.Tell line) = counts_none line ≡ true
+IsPlaced os (step.Open o) = IsNext os o
 IsPlaced os (step.Push l a) = IsTaken os l a.pusher
 IsPlaced os (step.Sync l r) = l < length os
 
@@ -81,14 +81,6 @@ then_more c a b d xs ys f g =
       opens = steps_then (openings c 0 a) xs ys ∙ ap (λ (os : List Opening). with_steps os ys) f.opens ∙ g.opens;
     }
 
--- a line more is told
-told_first : (c : Contents) (a b : List Sight) (xs : List Step) (x : Step) → ((os : List Opening) → IsPlaced os x) → ((os : List Opening) → with_step os x ≡ os) → Leads c a xs b → Leads c a (x ∷ xs) b
-told_first c a b xs x placed same f =
-    record {
-      placed = (placed (openings c 0 a), subst (λ (os : List Opening). ArePlaced os xs) (sym (same (openings c 0 a))) f.placed);
-      opens = ap (λ (os : List Opening). with_steps os xs) (same (openings c 0 a)) ∙ f.opens;
-    }
-
 same_lanes : (c : Contents) (a b : List Sight) (xs : List Step) → b ≡ a → Leads c a xs a → Leads c a xs b
 same_lanes c a b xs e f = subst (Leads c a xs) (sym e) f
 
@@ -111,7 +103,7 @@ GoesToLane c a session (Dropped why) = Unit {0}
 GoesToLane c a session (Goes l kind q) = IsLaneFor c a session l
 
 fate_leads : (c : Contents) (time : ℕ) (older : List Move) (session stamp : ℕ) (p : View) (a : List Sight) (f : Fate) → GoesToLane c a session f → Leads c a (fate_steps c time older session stamp p f) a
-fate_leads c time older session stamp p a (Dropped why) h = record { placed = (tt, tt); opens = refl }
+fate_leads c time older session stamp p a (Dropped why) h = record { placed = (refl, tt); opens = refl }
 fate_leads c time older session stamp p a (Goes l kind q) h =
     record {
       placed = (record { opening = opening c l h.of; is = opening_at c 0 a l h.of h.here ∙ ap (λ (k : ℕ). Some (opening c k h.of)) (omega arith); pushes = h.pushes }, tt);
@@ -151,23 +143,31 @@ module _ (laws : GoOn) (c : Contents) (script : IsScript c) where
   known_leads time session ssrc rate a e true = none c a
   known_leads time session ssrc rate a e false = none c a
 
-  room_leads : (time : ℕ) (before : List Sight) (session ssrc rate : ℕ) (b : Bool) → IsRate rate → rate_of (lanes_of before) (session, ssrc) ≡ None → nat_lt (length (lanes_of before)) 64 ≡ b
+  room_leads : (time : ℕ) (before : List Sight) (session ssrc rate : ℕ) (b : Bool) → session < 8 → IsRate rate → rate_of (lanes_of before) (session, ssrc) ≡ None → nat_lt (length (lanes_of before)) 64 ≡ b
       → Leads c (lanes_of before) (lane_steps c time session ssrc rate (if b then lane.New (length (lanes_of before)) else lane.Full)) (lanes_of (sight session ssrc rate ∷ before))
-  room_leads time before session ssrc rate true is absent e =
+  room_leads time before session ssrc rate true small is absent e =
+      let room : length (lanes_of before) < 64 = ltb-true (length (lanes_of before)) 64 e in
+      let long : length (openings c 0 (lanes_of before)) ≡ length (lanes_of before) = as_many c 0 (lanes_of before) in
       record {
-        placed = (tt, (valid_settings c session rate script is.from is.to, tt));
+        placed = (
+          refl,
+          (
+            record { number = sym long; room = omega (arith, long, room); session = small; valid = valid_settings c session rate script is.from is.to },
+            tt,
+          ),
+        );
         opens = sym (one_from c 0 (length (lanes_of before)) (lanes_of before) (sight session ssrc rate) (omega arith))
             ∙ ap (openings c 0) (sym (laws.new before (sight session ssrc rate) absent (ltb-true (length (lanes_of before)) 64 e)));
       }
-  room_leads time before session ssrc rate false is absent e =
+  room_leads time before session ssrc rate false small is absent e =
       same_lanes c (lanes_of before) (lanes_of (sight session ssrc rate ∷ before)) [] (laws.full before (sight session ssrc rate) (ltb-false (length (lanes_of before)) 64 e)) (none c (lanes_of before))
 
-  lane_leads : (time : ℕ) (before : List Sight) (session ssrc rate : ℕ) (f : Option (ℕ × ℕ)) → IsRate rate → found_from 0 (session, ssrc) (lanes_of before) ≡ f
+  lane_leads : (time : ℕ) (before : List Sight) (session ssrc rate : ℕ) (f : Option (ℕ × ℕ)) → session < 8 → IsRate rate → found_from 0 (session, ssrc) (lanes_of before) ≡ f
       → Leads c (lanes_of before) (lane_steps c time session ssrc rate (lane_by (lanes_of before) rate f)) (lanes_of (sight session ssrc rate ∷ before))
-  lane_leads time before session ssrc rate None is e =
-      room_leads time before session ssrc rate (nat_lt (length (lanes_of before)) 64) is
+  lane_leads time before session ssrc rate None small is e =
+      room_leads time before session ssrc rate (nat_lt (length (lanes_of before)) 64) small is
       (rate_found 0 (session, ssrc) (lanes_of before) ∙ ap (option_map (λ x. x.1)) e) refl
-  lane_leads time before session ssrc rate (Some x) is e =
+  lane_leads time before session ssrc rate (Some x) small is e =
       same_lanes c (lanes_of before) (lanes_of (sight session ssrc rate ∷ before)) _
       (laws.known before (sight session ssrc rate) x.1 (rate_found 0 (session, ssrc) (lanes_of before) ∙ ap (option_map (λ y. y.1)) e))
       (known_leads time session ssrc rate (lanes_of before) x (x.1 == rate))
@@ -203,7 +203,7 @@ module _ (laws : GoOn) (c : Contents) (script : IsScript c) where
       seen_goes before session ssrc rate p x lt e (laws.known before (sight session ssrc rate) x.1 (rate_found 0 (session, ssrc) (lanes_of before) ∙ ap (option_map (λ y. y.1)) e)) (x.1 == rate)
 
   route_leads : (time session p : ℕ) (a : List Sight) (r : PtRoute) → Leads c a (route_steps time session p r) a
-  route_leads time session p a (pt.First rate) = record { placed = (tt, tt); opens = refl }
+  route_leads time session p a (pt.First rate) = record { placed = (refl, tt); opens = refl }
   route_leads time session p a (pt.Known rate) = none c a
   route_leads time session p a pt.Unmapped = none c a
 
@@ -213,7 +213,7 @@ module _ (laws : GoOn) (c : Contents) (script : IsScript c) where
 
   rated_leads : (time : ℕ) (older : List Move) (session stamp : ℕ) (p : View) (r : Option ℕ) → session < 8 → rate c session p.pt ≡ r
       → Leads c (lanes c older) (stream_steps c time older session p r ++ fate_steps c time older session stamp p (rated_fate (lanes c older) session p r)) (behind session p.ssrc older r)
-  rated_leads time older session stamp p None lt e = record { placed = (tt, tt); opens = refl }
+  rated_leads time older session stamp p None lt e = record { placed = (refl, tt); opens = refl }
   rated_leads time older session stamp p (Some rate) lt e =
       let before : List Sight = filter_map (sight_of c) older in
       let f : Option (ℕ × ℕ) = found_from 0 (session, p.ssrc) (lanes_of before) in
@@ -221,7 +221,7 @@ module _ (laws : GoOn) (c : Contents) (script : IsScript c) where
       then_more c (lanes_of before) after after
       (lane_steps c time session p.ssrc rate (lane_by (lanes_of before) rate f))
       (fate_steps c time older session stamp p (own_fate p (lane_by (lanes_of before) rate f)))
-      (lane_leads time before session p.ssrc rate f (rate_is c session p.pt rate script e) refl)
+      (lane_leads time before session p.ssrc rate f lt (rate_is c session p.pt rate script e) refl)
       (fate_leads c time older session stamp p after (own_fate p (lane_by (lanes_of before) rate f)) (own_goes before session p.ssrc rate p f lt refl))
 
   release_leads : (time : ℕ) (older : List Move) (session stamp : ℕ) (p : View) → session < 8
@@ -264,22 +264,19 @@ module _ (laws : GoOn) (c : Contents) (script : IsScript c) where
   report_leads time older session ssrc ntp rtp =
       let rest : Leads c (lanes c older) (sync_steps c older session ntp rtp (lane_of (lanes c older) (session, ssrc))) (lanes c older) =
       sync_leads older session ssrc ntp rtp (found_from 0 (session, ssrc) (lanes c older)) refl in
-      record { placed = (tt, rest.placed); opens = rest.opens }
-
-  one_told : (a : List Sight) (line : Step) → IsPlaced (openings c 0 a) line → with_step (openings c 0 a) line ≡ openings c 0 a → Leads c a (line ∷ []) a
-  one_told a line placed same = record { placed = (placed, tt); opens = same }
+      record { placed = (refl, rest.placed); opens = rest.opens }
 
   note_leads : (time : ℕ) (older : List Move) (session : ℕ) (n : Note) → session < 8
       → Leads c (lanes c older) (note_steps c time older session n) (lanes c (option_to_list (move_of session n) ++ older))
-  note_leads time older session (Holds k) lt = record { placed = (tt, tt); opens = refl }
-  note_leads time older session (Drops k why) lt = record { placed = (tt, tt); opens = refl }
+  note_leads time older session (Holds k) lt = record { placed = (refl, tt); opens = refl }
+  note_leads time older session (Drops k why) lt = record { placed = (refl, tt); opens = refl }
   note_leads time older session (Releases k) lt = release_leads time older session k.stamp k.packet lt
-  note_leads time older session (NewName ssrc name) lt = record { placed = (tt, tt); opens = refl }
+  note_leads time older session (NewName ssrc name) lt = record { placed = (refl, tt); opens = refl }
   note_leads time older session (Synced ssrc ntp rtp) lt = report_leads time older session ssrc ntp rtp
-  note_leads time older session (Stray ssrc) lt = record { placed = (tt, tt); opens = refl }
-  note_leads time older session (Left ssrc) lt = record { placed = (tt, tt); opens = refl }
-  note_leads time older session (Gone ssrc) lt = record { placed = (tt, tt); opens = refl }
-  note_leads time older session (Says bytes) lt = record { placed = (tt, tt); opens = refl }
+  note_leads time older session (Stray ssrc) lt = record { placed = (refl, tt); opens = refl }
+  note_leads time older session (Left ssrc) lt = record { placed = (refl, tt); opens = refl }
+  note_leads time older session (Gone ssrc) lt = record { placed = (refl, tt); opens = refl }
+  note_leads time older session (Says bytes) lt = record { placed = (refl, tt); opens = refl }
 
   -- one move after the other, or all at once
   moved : (o : Option Move) (ms older : List Move) → reverse ms ++ (option_to_list o ++ older) ≡ reverse (cons_option o ms) ++ older
@@ -302,10 +299,10 @@ module _ (laws : GoOn) (c : Contents) (script : IsScript c) where
   -- ---- all steps
 
   gone_leads : (time : ℕ) (older : List Move) (session : ℕ) (ssrcs bytes : List ℕ) (a : List Sight) → Leads c a (notes_steps c time older session ((map Gone ssrcs ++ Says bytes ∷ []) ++ [])) a
-  gone_leads time older session [] bytes a = record { placed = (tt, tt); opens = refl }
+  gone_leads time older session [] bytes a = record { placed = (refl, tt); opens = refl }
   gone_leads time older session (x ∷ xs) bytes a =
       let rest : Leads c a (notes_steps c time older session ((map Gone xs ++ Says bytes ∷ []) ++ [])) a = gone_leads time older session xs bytes a in
-      record { placed = (tt, rest.placed); opens = rest.opens }
+      record { placed = (refl, rest.placed); opens = rest.opens }
 
   due_leads : (time : ℕ) (older : List FrontEvent) (a : List Sight) (ss : List ℕ) → Leads c a (flat_map (report_time_steps c time older) ss) a
   due_leads time older a [] = none c a
@@ -317,12 +314,12 @@ module _ (laws : GoOn) (c : Contents) (script : IsScript c) where
 
   bad_leads : (time session : ℕ) (a : List Sight) (o : Option (Word × ℕ)) → Leads c a (bad_steps time session o) a
   bad_leads time session a None = none c a
-  bad_leads time session a (Some bad) = record { placed = (tt, tt); opens = refl }
+  bad_leads time session a (Some bad) = record { placed = (refl, tt); opens = refl }
 
   record_leads : (time : ℕ) (older : List FrontEvent) (h : Holding) → IsOfSession h
       → Leads c (lanes c (moves c older)) (record_steps c time older h) (lanes c (reverse (moves_in c older time h) ++ moves c older))
-  record_leads time older (Nothing why) is = record { placed = (tt, tt); opens = refl }
-  record_leads time older (BadPacket session fault) is = record { placed = (tt, tt); opens = refl }
+  record_leads time older (Nothing why) is = record { placed = (refl, tt); opens = refl }
+  record_leads time older (BadPacket session fault) is = record { placed = (refl, tt); opens = refl }
   record_leads time older (BadCompound session fault) is = bad_leads time session (lanes c (moves c older)) (rtcp_word fault)
   record_leads time older (Packet session from p) is = notes_lead time (moves c older) session (session_notes c older session (Rtp time from p (rate c session p.pt))) is
   record_leads time older (Compound session packets) is = notes_lead time (moves c older) session (session_notes c older session (Rtcp time packets)) is
@@ -336,3 +333,27 @@ module _ (laws : GoOn) (c : Contents) (script : IsScript c) where
   all_lead [] = none c []
   all_lead (e ∷ older) =
       then_more c [] (lanes c (moves c older)) (lanes c (moves c (e ∷ older))) (all_steps c older) (steps c older e) (all_lead older) (event_leads older e)
+
+-- ---- report times
+
+tells_then : (xs ys : List Step) → OnlyTell xs → OnlyTell ys → OnlyTell (xs ++ ys)
+tells_then [] ys f g = g
+tells_then (step.Tell x ∷ xs) ys f g = tells_then xs ys f g
+tells_then (step.Open o ∷ xs) ys f g = absurd f
+tells_then (step.Push l a ∷ xs) ys f g = absurd f
+tells_then (step.Sync l r ∷ xs) ys f g = absurd f
+
+gone_tell : (c : Contents) (time : ℕ) (older : List Move) (session : ℕ) (ssrcs bytes : List ℕ) → OnlyTell (notes_steps c time older session ((map Gone ssrcs ++ Says bytes ∷ []) ++ []))
+gone_tell c time older session [] bytes = tt
+gone_tell c time older session (x ∷ xs) bytes = gone_tell c time older session xs bytes
+
+due_tell : (c : Contents) (time : ℕ) (older : List FrontEvent) (ss : List ℕ) → OnlyTell (flat_map (report_time_steps c time older) ss)
+due_tell c time older [] = tt
+due_tell c time older (s ∷ ss) =
+    tells_then (report_time_steps c time older s) (flat_map (report_time_steps c time older) ss)
+    (gone_tell c time (moves c older) s (gone (table (setting c s) (asks (given c s older))) time c.settings.timeout)
+    (report_bytes c.settings.ssrc (blocks (expired (table (setting c s) (asks (given c s older))) time c.settings.timeout) time)))
+    (due_tell c time older ss)
+
+pub reports_tell : (c : Contents) (older : List FrontEvent) (time : ℕ) → OnlyTell (steps c older (ReportsDue time))
+reports_tell c older time = due_tell c time older (sessions c)

@@ -1,17 +1,20 @@
 //! Laws of the replay of a script. Each function's contract is a law, for all scripts, and for all
 //! captures or lists of inputs. The functions do nothing.
-ghost use Rattle.std.specs.Prelude.{◌≡◌, ◌++◌, ℕ, List, reverse};
+ghost use Rattle.std.specs.Prelude.{◌≡◌, ◌≤◌, ◌++◌, ◌∷◌, [], ℕ, List, reverse};
 ghost use Rattle.rtp_io.specs.Outside.{AreBytes};
 ghost use Rattle.pcap_file.specs.Capture.{Record, capture_of};
 ghost use Rattle.jitter_model.specs.Runs.{Run};
 ghost use Rattle.script_lang.specs.Contents.{Contents, IsScript};
+ghost use Rattle.front_model.specs.Events.{FrontEvent, ReportsDue, records};
+ghost use Rattle.front_model.specs.Steps.{steps, all_steps};
 ghost use Rattle.timeline.specs.Times.{at_times};
 ghost use Rattle.replay_model.specs.Inputs.{Input, inputs, all_inputs};
 ghost use Rattle.replay_model.specs.Events.{lane};
 ghost use Rattle.replay_model.specs.Lanes.{opened};
 ghost use Rattle.replay_model.specs.Log.{timeline, whole_timeline};
-ghost use Rattle.replay_model.specs.Fitting.{IsSound, IsReplay};
+ghost use Rattle.replay_model.specs.Fitting.{IsSound, IsReplay, AreComing, with_steps};
 ghost use Rattle.replay_sound.specs.Stamped.{AreStamped};
+ghost use Rattle.replay_sound.specs.Suited.{AreSuited, OnlyTell};
 
 use replay_model::laws::lanes_are_runs;
 use replay_ranges::laws::{ranges_hold, records_give_few};
@@ -27,6 +30,24 @@ pub fn scripts_are_sound()
     ranges_hold();
     records_give_few();
 }
+
+/// Whatever comes to the front of a script, with no more records than a capture has at most, leads
+/// to steps that suit a bin.
+pub fn steps_suit_a_bin()
+    ensures { (c : Contents) (older : List FrontEvent) (e : FrontEvent)
+        → IsScript c → AreComing (e ∷ older) → records (e ∷ older) ≤ 100000000
+        → AreSuited (with_steps [] (all_steps c older)) (steps c older e) }
+{
+    // Laws for the proof; the calls do nothing.
+    lanes_go_on();
+    ranges_hold();
+}
+
+/// At a report time the front of a script tells the reports, and does nothing else.
+pub fn reports_only_tell()
+    ensures { (c : Contents) (older : List FrontEvent) (time : ℕ)
+        → OnlyTell (steps c older (ReportsDue time)) }
+{}
 
 /// The records of a capture are such that a replay takes them.
 pub fn captures_are_stamped()

@@ -3,13 +3,15 @@ use Rattle.std.proofs.Common.{◌≡◌, ℕ, ◌<◌, List, [], Option, Some, E
 use Rattle.std.proofs.lemmas.List.{append-nil}
 use Rattle.rtp_io.specs.Outside.{Disk, Adds, AddsFront}
 use Rattle.rtp_io.specs.Laws.{front_of, adds_same}
-use Rattle.rtpbin_cli.specs.declared.status.Status.{Status}
-use Rattle.rtpbin_cli.specs.declared.status.Status.TheVariants as status
-use Rattle.rtpbin_cli.specs.declared.stop.Stop.{Stop}
-use Rattle.rtpbin_cli.specs.declared.stop.Stop.TheVariants as stop
+use Rattle.command_core.specs.declared.status.Status.{Status}
+use Rattle.command_core.specs.declared.status.Status.TheVariants as status
+use Rattle.command_core.specs.declared.stop.Stop.{Stop}
+use Rattle.command_core.specs.declared.stop.Stop.TheVariants as stop
 use Rattle.rtpbin_cli.specs.Words.{Form}
-use Rattle.rtpbin_cli.specs.Outcome.{Wanted, out_of, stop_of, err_from, err_of, text_of, memory_text, read_out, IsFront, HasOut, HasTaken, MayStop, MustStop, HasCutErr, HasErr, HasSomeErr}
-use Rattle.rtpbin_cli.specs.Steps.{HasStopCause, IsUsage, Runs, Told, Reports}
+use Rattle.command_core.specs.Stops.{text_of, memory_text}
+use Rattle.rtpbin_cli.specs.Outcome.{Wanted, out_of, stop_of, err_from, err_of, read_out, IsFront, HasOut, HasTaken, MayStop, MustStop, HasCutErr, HasErr, HasSomeErr}
+use Rattle.command_core.specs.Steps.{HasStopCause}
+use Rattle.rtpbin_cli.specs.Steps.{IsUsage, Runs, Told, Reports}
 
 all_front : (p : List ℕ) (a b : Option (List ℕ)) → Adds p a b → AddsFront p a b
 all_front p a b adds = subst (λ (l : List ℕ). AddsFront l a b) (append-nil p) (front_of p [] a b adds)

@@ -1,13 +1,14 @@
 -- Words of a form never end with Usage.
-use Rattle.std.proofs.Common.{◌≡◌, ◌≢◌, ℕ, List, Result, Ok, Err, Option, Some}
-use Rattle.rtpbin_cli.specs.declared.stop.Stop.{Stop}
-use Rattle.rtpbin_cli.specs.declared.stop.Stop.TheVariants as stop
+use Rattle.std.proofs.Common.{◌≡◌, ◌≢◌, ℕ, List, Result, Ok, Err, Option, Some, refl}
+use Rattle.command_core.specs.declared.stop.Stop.{Stop}
+use Rattle.command_core.specs.declared.stop.Stop.TheVariants as stop
 use Rattle.rtpbin_cli.specs.Words.{Form}
-use Rattle.rtpbin_cli.specs.declared.status.Status.{Status}
-use Rattle.rtpbin_cli.specs.declared.status.Status.TheVariants as status
+use Rattle.command_core.specs.declared.status.Status.{Status}
+use Rattle.command_core.specs.declared.status.Status.TheVariants as status
 use Rattle.rtp_io.specs.Outside.{Disk}
-use Rattle.rtpbin_cli.specs.Output.{Output}
-use Rattle.rtpbin_cli.specs.Steps.{Covers, HasStopCause, IsOfForm, IsUsage, Reports}
+use Rattle.command_core.specs.Output.{Output}
+use Rattle.command_core.specs.Steps.{Covers, HasStopCause, Prints}
+use Rattle.rtpbin_cli.specs.Steps.{IsOfForm, IsUsage, Reports}
 
 pub no_usage : (r : Result (Unit {0}) Stop) (form : Option Form) (f : Form) → Some f ≡ form → IsOfForm r → IsUsage r form
 no_usage (Ok x) form f e other = λ none. cc
@@ -45,3 +46,23 @@ taken stop.Read r old new e e' f f' o o' cause told other = cause.1
 taken (stop.Capture fault) r old new e e' f f' o o' cause told other = cause.1
 taken stop.Write r old new e e' f f' o o' cause told other = absurd (other told.0)
 taken stop.Memory r old new e e' f f' o o' cause told other = cause.1
+
+-- ---- one piece
+
+pub prints_of_form : (bytes : List ℕ) (result : Result (Unit {0}) Stop) (old new : Option (List ℕ)) (o o' : ℕ) → Prints bytes result old new o o' → IsOfForm result
+prints_of_form bytes (Ok x) old new o o' h = tt
+prints_of_form bytes (Err stop.Write) old new o o' h = tt
+prints_of_form bytes (Err stop.Memory) old new o o' h = tt
+prints_of_form bytes (Err stop.Usage) old new o o' h = absurd h
+prints_of_form bytes (Err (stop.Script line cause)) old new o o' h = absurd h
+prints_of_form bytes (Err stop.Read) old new o o' h = absurd h
+prints_of_form bytes (Err (stop.Capture fault)) old new o o' h = absurd h
+
+pub prints_stop : (bytes : List ℕ) (result : Result (Unit {0}) Stop) (old new : Option (List ℕ)) (f o o' : ℕ) → Prints bytes result old new o o' → HasStopCause result f f o o'
+prints_stop bytes (Ok x) old new f o o' h = (refl, h.1)
+prints_stop bytes (Err stop.Write) old new f o o' h = (refl, h.1)
+prints_stop bytes (Err stop.Memory) old new f o o' h = (refl, h.1)
+prints_stop bytes (Err stop.Usage) old new f o o' h = absurd h
+prints_stop bytes (Err (stop.Script line cause)) old new f o o' h = absurd h
+prints_stop bytes (Err stop.Read) old new f o o' h = absurd h
+prints_stop bytes (Err (stop.Capture fault)) old new f o o' h = absurd h

@@ -1,12 +1,6 @@
 pub mod Forms
-pub mod Progress
-pub mod Printing
-pub mod Clocks
-pub mod Ahead
-pub mod Items
-pub mod Playing
-pub mod Replaying
-pub mod Dumping
+pub mod Sections
 pub mod Scripts
 pub mod Running
 pub mod Ending
+pub mod Digits

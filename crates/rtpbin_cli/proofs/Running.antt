@@ -5,22 +5,26 @@ use Rattle.std.proofs.lemmas.List.{length-append, take_at}
 use Rattle.std.proofs.lemmas.Slice.Eq.{bytes_eq-Decides}
 use Rattle.rtp_io.specs.Outside.{AreBytes, Disk, SameDisk, IsOpened, IsClosed, Adds, AddsFront}
 use Rattle.rtp_io.specs.Laws.{told_then, adds_none, adds_same}
-use Rattle.pcap_file.specs.Capture.{capture_of}
+use Rattle.capture_file.specs.Capture.{Capture, capture_of}
 use Rattle.script_lang.specs.declared.fault.ScriptFault.{ScriptFault}
 use Rattle.script_lang.specs.declared.fault.ScriptFault.TheVariants.{Bad}
 use Rattle.script_lang.specs.Contents.{Contents}
 use Rattle.script_lang.specs.Grammar.{read_script}
-use Rattle.rtpbin_cli.specs.declared.stop.Stop.{Stop}
-use Rattle.rtpbin_cli.specs.declared.stop.Stop.TheVariants as stop
-use Rattle.rtpbin_cli.specs.Words.{Form, Replay, Dump, capture_name}
-use Rattle.rtpbin_cli.specs.Output.{Output, output_of}
-use Rattle.rtpbin_cli.specs.Commands.{output_by, replay_by, replay_output}
-use Rattle.rtpbin_cli.specs.Outcome.{Wanted, BadScript, Written, HasTaken, want_from, given_from, stop_from, wanted_of, out_of, stop_of, given_of, part_from, read_out}
-use Rattle.rtpbin_cli.specs.Steps.{ReadsScript, Covers, TookFew, Runs}
-use Rattle.rtpbin_cli.specs.Taken.{TakesFew}
-use Rattle.rtpbin_cli.specs.Dump.{dump_output}
-use Rattle.rtpbin_cli.proofs.Replaying.{part_none as none_of_replay}
-use Rattle.rtpbin_cli.proofs.Dumping.{dump_goes_on}
+use Rattle.command_core.specs.declared.stop.Stop.{Stop}
+use Rattle.command_core.specs.declared.stop.Stop.TheVariants as stop
+use Rattle.rtpbin_cli.specs.declared.words.Way.{Way}
+use Rattle.rtpbin_cli.specs.declared.words.Way.TheVariants.{Play, Answer}
+use Rattle.rtpbin_cli.specs.Words.{Form, Scripted, Dump, Gen, capture_name}
+use Rattle.command_core.specs.Output.{Output, output_of}
+use Rattle.replay_command.specs.Replay.{nothing_played}
+use Rattle.rtxsend_command.specs.Sent.{rtxsend_output, sent_part}
+use Rattle.rtpbin_cli.specs.Commands.{output_by, scripted_by, scripted_output, generated_output, generated_text}
+use Rattle.rtpbin_cli.specs.Outcome.{Wanted, BadScript, Written, HasTaken, want_from, given_from, stop_from, capture_in, wanted_of, out_of, stop_of, given_of, part_from, read_out}
+use Rattle.command_core.specs.Steps.{ReadsScript, Covers, TookFew, Prints}
+use Rattle.command_core.specs.Laws.{prints_more}
+use Rattle.rtpbin_cli.specs.Steps.{Runs}
+use Rattle.command_core.specs.Taken.{TakesFew}
+use Rattle.dump_command.specs.Dump.{dump_output, dump_part}
 use Rattle.rtpbin_cli.proofs.Scripts.{BeginsNoCapture, begins_no_capture, no_records}
 
 front_none : (p : List ℕ) (a : Option (List ℕ)) → AddsFront p a a
@@ -38,12 +42,25 @@ given_closed : (name : List ℕ) (after : Disk) → after.opened ≡ None → gi
 given_closed name after closed = ap (λ (o : Option (List ℕ)). given_from name after o) closed
 
 -- without records nothing goes out
+none_of_dump : dump_part [] ≡ []
+unfolding dump_part
+none_of_dump = refl
+
+none_of_answers : (c : Contents) → (rtxsend_output c).part [] ≡ []
+unfolding sent_part
+none_of_answers c = refl
+
+none_scripted : (way : Way) (c : Contents) → (scripted_output way c).part [] ≡ []
+none_scripted (Play style) c = nothing_played style c
+none_scripted Answer c = none_of_answers c
+
 none_of_each : (contents : List ℕ → List ℕ) (form : Form) (output : Output) → output_by contents form ≡ Ok output → output.part [] ≡ []
-none_of_each contents (Dump capture) output is = let e : dump_output ≡ output = cc in subst (λ (o : Output). o.part [] ≡ []) e dump_goes_on.none
-none_of_each contents (Replay hex capture script) output is = at (read_script (contents script)) is
+none_of_each contents (Dump capture) output is = let e : dump_output ≡ output = cc in subst (λ (o : Output). o.part [] ≡ []) e none_of_dump
+none_of_each contents (Gen first count) output is = let e : generated_output first count ≡ output = cc in subst (λ (o : Output). o.part [] ≡ []) e refl
+none_of_each contents (Scripted way capture script) output is = at (read_script (contents script)) is
   where
-    at : (read : Result Contents ScriptFault) → replay_by hex read ≡ Ok output → output.part [] ≡ []
-    at (Ok c) e = let same : replay_output hex c ≡ output = cc in subst (λ (o : Output). o.part [] ≡ []) same (none_of_replay hex c)
+    at : (read : Result Contents ScriptFault) → scripted_by way read ≡ Ok output → output.part [] ≡ []
+    at (Ok c) e = let same : scripted_output way c ≡ output = cc in subst (λ (o : Output). o.part [] ≡ []) same (none_scripted way c)
     at (Err fault) e = absurd cc
 
 read_closed : (form : Form) (after : Disk) → after.opened ≡ None → read_out (Some form) after ≡ []
@@ -63,32 +80,32 @@ script_given law capture script c after bytes opened is =
         (subst (λ (n : List ℕ). AreBytes (after.contents n)) name bytes) (subst (λ (n : List ℕ). read_script (after.contents n) ≡ Ok c) name is)
     at false same = no_records [] (omega arith)
 
--- where a replay has an output, its script has no fault
-contents_by : (hex : Bool) (read : Result Contents ScriptFault) (output : Output) → replay_by hex read ≡ Ok output → (c : Contents) × (read ≡ Ok c)
-contents_by hex (Ok c) output is = (c, refl)
-contents_by hex (Err fault) output is = absurd cc
+-- where something goes out for a script, its script has no fault
+contents_by : (way : Way) (read : Result Contents ScriptFault) (output : Output) → scripted_by way read ≡ Ok output → (c : Contents) × (read ≡ Ok c)
+contents_by way (Ok c) output is = (c, refl)
+contents_by way (Err fault) output is = absurd cc
 
-read_script_out : BeginsNoCapture → (hex : Bool) (capture script : List ℕ) (after : Disk) → AreBytes (after.contents script) → after.opened ≡ Some script → read_out (Some (Replay hex capture script)) after ≡ []
-read_script_out law hex capture script after bytes opened =
-    part_none (replay_by hex (read_script (after.contents script))) (given_of capture after)
-    (λ output is. (none_of_each after.contents (Replay hex capture script) output is, let s = contents_by hex (read_script (after.contents script)) output is in script_given law capture script s.0 after bytes opened s.1))
+read_script_out : BeginsNoCapture → (way : Way) (capture script : List ℕ) (after : Disk) → AreBytes (after.contents script) → after.opened ≡ Some script → read_out (Some (Scripted way capture script)) after ≡ []
+read_script_out law way capture script after bytes opened =
+    part_none (scripted_by way (read_script (after.contents script))) (given_of capture after)
+    (λ output is. (none_of_each after.contents (Scripted way capture script) output is, let s = contents_by way (read_script (after.contents script)) output is in script_given law capture script s.0 after bytes opened s.1))
 
 -- ---- the parts
 
-pub script_stops : BeginsNoCapture → (hex : Bool) (capture script : List ℕ) (why : Stop) (before after : Disk) (old : Option (List ℕ)) → SameDisk before after → ReadsScript (Err why) script before after → IsTrue before.told
-    → Runs (Err why) (wanted_of before.contents (Replay hex capture script)) (Some (Replay hex capture script)) after old old
-script_stops law hex capture script (stop.Script line cause) before after old same is told =
+pub script_stops : BeginsNoCapture → (way : Way) (capture script : List ℕ) (why : Stop) (before after : Disk) (old : Option (List ℕ)) → SameDisk before after → ReadsScript (Err why) script before after → IsTrue before.told
+    → Runs (Err why) (wanted_of before.contents (Scripted way capture script)) (Some (Scripted way capture script)) after old old
+script_stops law way capture script (stop.Script line cause) before after old same is told =
     let c = capture_of (before.contents capture) in
-    let w : want_from (replay_by hex (read_script (before.contents script))) c ≡ BadScript (Bad line cause) = ap (λ (r : Result Contents ScriptFault). want_from (replay_by hex r) c) (is told) in
-    (ap stop_of w, adds_same [] (out_of (wanted_of before.contents (Replay hex capture script))) old old (sym (ap out_of w)) (adds_none old))
-script_stops law hex capture script stop.Read before after old same is told = elim (is told) [
-  | inl closed ↦ adds_same [] (read_out (Some (Replay hex capture script)) after) old old (sym (read_closed (Replay hex capture script) after closed)) (adds_none old)
-  | inr opened ↦ adds_same [] (read_out (Some (Replay hex capture script)) after) old old (sym (read_script_out law hex capture script after opened.1 opened.0)) (adds_none old)
+    let w : want_from (scripted_by way (read_script (before.contents script))) c ≡ BadScript (Bad line cause) = ap (λ (r : Result Contents ScriptFault). want_from (scripted_by way r) c) (is told) in
+    (ap stop_of w, adds_same [] (out_of (wanted_of before.contents (Scripted way capture script))) old old (sym (ap out_of w)) (adds_none old))
+script_stops law way capture script stop.Read before after old same is told = elim (is told) [
+  | inl closed ↦ adds_same [] (read_out (Some (Scripted way capture script)) after) old old (sym (read_closed (Scripted way capture script) after closed)) (adds_none old)
+  | inr opened ↦ adds_same [] (read_out (Some (Scripted way capture script)) after) old old (sym (read_script_out law way capture script after opened.1 opened.0)) (adds_none old)
 ]
-script_stops law hex capture script stop.Memory before after old same is told = front_none (out_of (wanted_of before.contents (Replay hex capture script))) old
-script_stops law hex capture script stop.Usage before after old same is told = absurd is
-script_stops law hex capture script stop.Write before after old same is told = absurd is
-script_stops law hex capture script (stop.Capture fault) before after old same is told = absurd is
+script_stops law way capture script stop.Memory before after old same is told = front_none (out_of (wanted_of before.contents (Scripted way capture script))) old
+script_stops law way capture script stop.Usage before after old same is told = absurd is
+script_stops law way capture script stop.Write before after old same is told = absurd is
+script_stops law way capture script (stop.Capture fault) before after old same is told = absurd is
 
 pub open_fails : (form : Form) (after : Disk) (old : Option (List ℕ)) → IsClosed after → Adds (read_out (Some form) after) old old
 open_fails form after old closed = adds_same [] (read_out (Some form) after) old old (sym (read_closed form after closed.opened)) (adds_none old)
@@ -111,10 +128,10 @@ given_is form output start after given all contents opened by =
     ap (λ (r : Result Output ScriptFault). part_from r (given_of name after)) by ∙ ap (λ (l : List ℕ). output.part (capture_of l).records) part
 
 -- the capture was opened, and its lines went out
-pub capture_runs : (form : Form) (output : Output) (result : Result (Unit {0}) Stop) (before start after : Disk) (old new : Option (List ℕ)) → IsTrue before.told → SameDisk before start → SameDisk start after
+pub capture_runs : (form : Form) → ((contents : List ℕ → List ℕ) → capture_in contents form ≡ capture_of (contents (capture_name form))) → (output : Output) (result : Result (Unit {0}) Stop) (before start after : Disk) (old new : Option (List ℕ)) → IsTrue before.told → SameDisk before start → SameDisk start after
     → output_by before.contents form ≡ Ok output → IsOpened (capture_name form) start → (IsTrue start.told → after.opened ≡ start.opened)
     → Covers output result start after old new → Runs result (wanted_of before.contents form) (Some form) after old new
-capture_runs form output result before start after old new told same same' by opened kept covers = at result covers
+capture_runs form captured output result before start after old new told same same' by opened kept covers = at result covers
   where
     here : IsTrue start.told
     here = told_then before start same told
@@ -126,7 +143,7 @@ capture_runs form output result before start after old new told same same' by op
     contents = same'.contents ∙ same.contents
 
     w : wanted_of before.contents form ≡ Written output (capture_of start.left)
-    w = ap (λ (r : Result Output ScriptFault). want_from r (capture_of (before.contents (capture_name form)))) by ∙ ap (λ (l : List ℕ). Written output (capture_of l)) (sym left)
+    w = ap (λ (r : Result Output ScriptFault). want_from r (capture_in before.contents form)) by ∙ ap (λ (c : Capture). Written output c) (captured before.contents ∙ ap capture_of (sym left))
 
     front : AddsFront (output_of output (capture_of start.left)) old new → AddsFront (out_of (wanted_of before.contents form)) old new
     front f = subst (λ (l : List ℕ). AddsFront l old new) (sym (ap out_of w)) f
@@ -135,7 +152,9 @@ capture_runs form output result before start after old new told same same' by op
     took t =
         let given : given_of (capture_name form) after ≡ t.taken =
         given_bytes (capture_name form) start after t.taken t.all (ap (λ (f : List ℕ → List ℕ). f (capture_name form)) contents ∙ sym left) (kept here ∙ opened.opened) in
-        subst (λ (want : Wanted). HasTaken want (Some form) after old new) (sym w) (subst (λ (l : List ℕ). TakesFew output (capture_of start.left).records l old new) (sym given) t.few)
+        let all : after.contents (capture_name form) ≡ start.left = ap (λ (f : List ℕ → List ℕ). f (capture_name form)) contents ∙ sym left in
+        subst (λ (want : Wanted). HasTaken want (Some form) after old new) (sym w)
+        (subst (λ (l : List ℕ). TakesFew output (after.contents (capture_name form)) l old new) (sym given) (subst (λ (l : List ℕ). TakesFew output l t.taken old new) (sym all) t.few))
 
     at : (result : Result (Unit {0}) Stop) → Covers output result start after old new → Runs result (wanted_of before.contents form) (Some form) after old new
     at (Ok x) h = (ap stop_of w ∙ ap stop_from (h here).0, adds_same (output_of output (capture_of start.left)) _ old new (sym (ap out_of w)) (h here).1)
@@ -148,3 +167,15 @@ capture_runs form output result before start after old new told same same' by op
     at (Err stop.Memory) h = front (h here)
     at (Err stop.Usage) h = absurd h
     at (Err (stop.Script line cause)) h = absurd h
+
+-- ---- generated packets
+
+pub generated_runs : (first count : ℕ) (result : Result (Unit {0}) Stop) (before after : Disk) (old new : Option (List ℕ)) (o o' : ℕ) → Prints (generated_text first count) result old new o o'
+    → Runs result (wanted_of before.contents (Gen first count)) (Some (Gen first count)) after old new
+generated_runs first count (Ok x) before after old new o o' h = (refl, h.0)
+generated_runs first count (Err stop.Write) before after old new o o' h = (h.0, λ n cut. absurd (cut (prints_more (generated_text first count) (Err stop.Write) old new o o' h)))
+generated_runs first count (Err stop.Memory) before after old new o o' h = h.0
+generated_runs first count (Err stop.Usage) before after old new o o' h = absurd h
+generated_runs first count (Err (stop.Script line cause)) before after old new o o' h = absurd h
+generated_runs first count (Err stop.Read) before after old new o o' h = absurd h
+generated_runs first count (Err (stop.Capture fault)) before after old new o o' h = absurd h

@@ -1,44 +1,37 @@
--- What is known of scripts: the front of one that is too long tells as much as the whole, and none begins a capture.
-use Rattle.std.proofs.Common.{◌≡◌, ◌≢◌, ℕ, zero, suc, ◌+◌, ◌*◌, ◌≤◌, ◌<◌, Bool, true, false, List, [], ◌∷◌, ◌++◌, length, take, drop, Option, Some, None, Result, Ok, Err, IsTrue, refl, sym, ap, subst, ◌∙◌, arith, inl, inr}
-use Rattle.std.specs.Prelude.{nat_lt, nat_eq, ◌==◌, ◌||◌, if◌then◌else◌}
+-- No script begins a capture.
+use Rattle.std.proofs.Common.{◌≡◌, ◌≢◌, ℕ, zero, suc, ◌+◌, ◌*◌, ◌≤◌, ◌<◌, Bool, true, false, List, [], ◌∷◌, length, take, drop, Option, Some, None, Ok, Err, refl, sym, subst, arith, ◌∙◌}
+use Rattle.std.specs.Prelude.{nat_lt, nat_le, nat_eq, ◌==◌, ◌&&◌, ◌||◌, if◌then◌else◌}
 use Rattle.std.specs.List.{starts_with}
-use Rattle.std.proofs.lemmas.Bool.{lt-ltb, cases_lt}
+use Rattle.std.proofs.lemmas.Bool.{lt-ltb, lt-leb, eqb-true}
 use Rattle.std.proofs.lemmas.Grind.{common_steps}
-use Rattle.std.proofs.lemmas.List.{append-nil, length-append, length-take-le, length-take}
-use Rattle.rtp_io.specs.Outside.{AreBytes, Disk}
-use Rattle.rtp_io.specs.Pulled.{FillsFrom}
+use Rattle.std.proofs.lemmas.List.{length-take}
+use Rattle.rtp_io.specs.Outside.{AreBytes}
 use Rattle.pcap_file.specs.declared.fault.CaptureFault.TheVariants.{CutHeader, Pcapng}
 use Rattle.pcap_file.specs.declared.order.Order.{Order}
 use Rattle.pcap_file.specs.declared.order.Order.TheVariants.{Little, Big}
 use Rattle.pcap_file.specs.Numbers.{number_at}
-use Rattle.pcap_file.specs.Capture.{capture_of, format_of, format_in, order_of, behind_header, empty}
-use Rattle.script_lang.specs.declared.fault.ScriptCause.TheVariants.{Size}
-use Rattle.script_lang.specs.declared.fault.ScriptFault.{ScriptFault}
-use Rattle.script_lang.specs.declared.fault.ScriptFault.TheVariants.{Bad, OutOfMemory}
+use Rattle.pcap_file.specs.Capture as pcap
+use Rattle.pcap_file.specs.Capture.{capture_of as capture_of_pcap_bytes, format_of, format_in, order_of, behind_header, empty}
+use Rattle.capture_file.specs.Capture.{capture_of, is_ng}
 use Rattle.script_lang.specs.Contents.{Contents}
 use Rattle.script_lang.specs.Grammar.{read_script}
-use Rattle.script_lang.specs.Reading.{Answers}
-use Rattle.rtpbin_cli.specs.declared.stop.Stop.{Stop}
-use Rattle.rtpbin_cli.specs.declared.stop.Stop.TheVariants as stop
-use Rattle.rtpbin_cli.specs.Outcome.{stop_of_script}
-use Rattle.rtpbin_cli.specs.Steps.{HasStopCause, ReadsScript, ReadsText}
+use Rattle.rtpbin_cli.proofs.Sections.{no_section}
 
-script_big : (text : List ℕ) → 1048576 < length text → read_script text ≡ Err (Bad 0 Size)
-unfolding read_script
-script_big text big = rw (lt-ltb 1048576 (length text) big) refl
+-- ---- a file that is no pcapng file
 
-pub script_front : (contents buf : List ℕ) (n : ℕ) (a b : Disk) → a.left ≡ contents → FillsFrom n buf a b → 1048576 < length buf → n ≤ length buf → read_script contents ≡ read_script (take n buf)
-script_front contents buf n a b left fills size bound =
-    elim (cases_lt n (length buf)) [
-      | inl short ↦ ap read_script (sym left ∙ fills.front ∙ ap (λ (l : List ℕ). take n buf ++ l) (fills.all short) ∙ append-nil (take n buf))
-      | inr full ↦
-          let len : length (take n buf) ≡ n = length-take-le n buf bound in
-          script_big contents (omega (arith, ap length (sym left ∙ fills.front), length-append (take n buf) b.left)) ∙ sym (script_big (take n buf) (omega arith))
-    ]
+as_pcap : (bytes : List ℕ) → is_ng bytes ≡ false → (capture_of bytes).records ≡ (pcap.capture_of bytes).records
+unfolding capture_of
+as_pcap bytes is = rw is refl
+
+short_is_pcap : (bytes : List ℕ) → length bytes < 24 → is_ng bytes ≡ false
+short_is_pcap bytes short = rw (lt-leb 24 (length bytes) short) refl
+
+no_pcap_records : (bytes : List ℕ) → length bytes < 24 → (pcap.capture_of bytes).records ≡ []
+unfolding capture_of_pcap_bytes
+no_pcap_records bytes short = rw (lt-ltb (length bytes) 24 short) refl
 
 pub no_records : (bytes : List ℕ) → length bytes < 24 → (capture_of bytes).records ≡ []
-unfolding capture_of
-no_records bytes short = rw (lt-ltb (length bytes) 24 short) refl
+no_records bytes short = as_pcap bytes (short_is_pcap bytes short) ∙ no_pcap_records bytes short
 
 -- ---- a script without a fault begins no capture
 
@@ -48,19 +41,35 @@ pub record BeginsNoCapture : Type 0 where
   pub little : (xs : List ℕ) (c : Contents) → read_script (212 ∷ xs) ≢ Ok c
   pub nano : (xs : List ℕ) (c : Contents) → read_script (77 ∷ 60 ∷ 178 ∷ xs) ≢ Ok c
 
--- a capture's first bytes, by the four magic numbers
-pub record BeginsOtherwise (a b c : ℕ) : Type 0 where
+-- a capture's first bytes, by the four magic numbers and the type of a section header
+pub record BeginsOtherwise (a b c d : ℕ) : Type 0 where
   pub big : a ≢ 161
   pub little : a ≢ 212
   pub nano : a ≡ 77 → b ≡ 60 → c ≢ 178
+  pub section : a ≡ 10 → b ≡ 13 → c ≡ 13 → d ≢ 10
 
-begins_otherwise : BeginsNoCapture → (a b c : ℕ) (xs : List ℕ) (contents : Contents) → read_script (a ∷ b ∷ c ∷ xs) ≡ Ok contents → BeginsOtherwise a b c
-begins_otherwise law a b c xs contents is = record {
-  big = λ e. law.big (b ∷ c ∷ xs) contents (subst (λ (n : ℕ). read_script (n ∷ b ∷ c ∷ xs) ≡ Ok contents) e is);
-  little = λ e. law.little (b ∷ c ∷ xs) contents (subst (λ (n : ℕ). read_script (n ∷ b ∷ c ∷ xs) ≡ Ok contents) e is);
-  nano = λ ea eb ec. law.nano xs contents (subst (λ (n : ℕ). read_script (77 ∷ 60 ∷ n ∷ xs) ≡ Ok contents) ec
-      (subst (λ (n : ℕ). read_script (77 ∷ n ∷ c ∷ xs) ≡ Ok contents) eb (subst (λ (n : ℕ). read_script (n ∷ b ∷ c ∷ xs) ≡ Ok contents) ea is)));
+begins_otherwise : BeginsNoCapture → (a b c d : ℕ) (xs : List ℕ) (contents : Contents) → read_script (a ∷ b ∷ c ∷ d ∷ xs) ≡ Ok contents → BeginsOtherwise a b c d
+begins_otherwise law a b c d xs contents is = record {
+  big = λ e. law.big (b ∷ c ∷ d ∷ xs) contents (subst (λ (n : ℕ). read_script (n ∷ b ∷ c ∷ d ∷ xs) ≡ Ok contents) e is);
+  little = λ e. law.little (b ∷ c ∷ d ∷ xs) contents (subst (λ (n : ℕ). read_script (n ∷ b ∷ c ∷ d ∷ xs) ≡ Ok contents) e is);
+  nano = λ ea eb ec. law.nano (d ∷ xs) contents (subst (λ (n : ℕ). read_script (77 ∷ 60 ∷ n ∷ d ∷ xs) ≡ Ok contents) ec
+      (subst (λ (n : ℕ). read_script (77 ∷ n ∷ c ∷ d ∷ xs) ≡ Ok contents) eb (subst (λ (n : ℕ). read_script (n ∷ b ∷ c ∷ d ∷ xs) ≡ Ok contents) ea is)));
+  section = λ ea eb ec ed. no_section xs contents (subst (λ (n : ℕ). read_script (10 ∷ 13 ∷ 13 ∷ n ∷ xs) ≡ Ok contents) ed
+      (subst (λ (n : ℕ). read_script (10 ∷ 13 ∷ n ∷ d ∷ xs) ≡ Ok contents) ec
+      (subst (λ (n : ℕ). read_script (10 ∷ n ∷ c ∷ d ∷ xs) ≡ Ok contents) eb (subst (λ (n : ℕ). read_script (n ∷ b ∷ c ∷ d ∷ xs) ≡ Ok contents) ea is))));
 }
+
+-- it is no pcapng file
+no_head : (a b c d : ℕ) (xs : List ℕ) → BeginsOtherwise a b c d → is_ng (a ∷ b ∷ c ∷ d ∷ xs) ≡ false
+no_head a b c d xs begins = at (nat_le 24 (length (a ∷ b ∷ c ∷ d ∷ xs))) (nat_eq 10 a) (nat_eq 13 b) (nat_eq 13 c) (nat_eq 10 d) refl refl refl refl
+  where
+    at : (long w x y z : Bool) → nat_eq 10 a ≡ w → nat_eq 13 b ≡ x → nat_eq 13 c ≡ y → nat_eq 10 d ≡ z → (long && (w && (x && (y && (z && true))))) ≡ false
+    at false w x y z e f g h = refl
+    at true false x y z e f g h = refl
+    at true true false y z e f g h = refl
+    at true true true false z e f g h = refl
+    at true true true true false e f g h = refl
+    at true true true true true e f g h = absurd (begins.section (sym (eqb-true 10 a e)) (sym (eqb-true 13 b f)) (sym (eqb-true 13 c g)) (sym (eqb-true 10 d h)))
 
 other : (n m : ℕ) → n ≢ m → (n == m) ≡ false
 other n m h = grind (arith, common_steps)
@@ -73,7 +82,7 @@ big_is : (a b c d : ℕ) (xs : List ℕ) → number_at Big 4 0 (a ∷ b ∷ c �
 unfolding number_at
 big_is a b c d xs = omega arith
 
-no_order : (a b c d : ℕ) (xs : List ℕ) → a < 256 → b < 256 → c < 256 → d < 256 → BeginsOtherwise a b c → order_of (a ∷ b ∷ c ∷ d ∷ xs) ≡ None
+no_order : (a b c d : ℕ) (xs : List ℕ) → a < 256 → b < 256 → c < 256 → d < 256 → BeginsOtherwise a b c d → order_of (a ∷ b ∷ c ∷ d ∷ xs) ≡ None
 no_order a b c d xs la lb lc ld begins =
     let bytes = a ∷ b ∷ c ∷ d ∷ xs in
     let micro : (number_at Little 4 0 bytes == 0xa1b2c3d4) ≡ false = other (number_at Little 4 0 bytes) 0xa1b2c3d4 (λ e. begins.little (omega (arith, e, little_is a b c d xs))) in
@@ -90,9 +99,9 @@ no_order a b c d xs la lb lc ld begins =
     of_tests false false true n' e f g h = absurd cc
     of_tests false false false true e f g h = absurd cc
 
-no_capture : (a b c d : ℕ) (xs : List ℕ) → a < 256 → b < 256 → c < 256 → d < 256 → BeginsOtherwise a b c → (capture_of (a ∷ b ∷ c ∷ d ∷ xs)).records ≡ []
-unfolding capture_of format_of
-no_capture a b c d xs la lb lc ld begins = at (nat_lt (length (a ∷ b ∷ c ∷ d ∷ xs)) 24)
+no_pcap : (a b c d : ℕ) (xs : List ℕ) → a < 256 → b < 256 → c < 256 → d < 256 → BeginsOtherwise a b c d → (pcap.capture_of (a ∷ b ∷ c ∷ d ∷ xs)).records ≡ []
+unfolding capture_of_pcap_bytes format_of
+no_pcap a b c d xs la lb lc ld begins = at (nat_lt (length (a ∷ b ∷ c ∷ d ∷ xs)) 24)
   where
     head : List ℕ
     head = a ∷ b ∷ c ∷ d ∷ take 20 xs
@@ -106,13 +115,16 @@ no_capture a b c d xs la lb lc ld begins = at (nat_lt (length (a ∷ b ∷ c ∷
     at true = refl
     at false = by_order (starts_with nat_eq head (0x0a ∷ 0x0d ∷ 0x0d ∷ 0x0a ∷ [])) (order_of head) (no_order a b c d (take 20 xs) la lb lc ld begins)
 
+no_capture : (a b c d : ℕ) (xs : List ℕ) → a < 256 → b < 256 → c < 256 → d < 256 → BeginsOtherwise a b c d → (capture_of (a ∷ b ∷ c ∷ d ∷ xs)).records ≡ []
+no_capture a b c d xs la lb lc ld begins = as_pcap (a ∷ b ∷ c ∷ d ∷ xs) (no_head a b c d xs begins) ∙ no_pcap a b c d xs la lb lc ld begins
+
 -- nor does a front of it
 pub begins_no_capture : BeginsNoCapture → (text : List ℕ) (c : Contents) (k : ℕ) → AreBytes text → read_script text ≡ Ok c → (capture_of (take k text)).records ≡ []
 begins_no_capture law text c k bytes is = at text k bytes c is
   where
     at : (text : List ℕ) (k : ℕ) → AreBytes text → (c : Contents) → read_script text ≡ Ok c → (capture_of (take k text)).records ≡ []
     at (a ∷ b ∷ c ∷ d ∷ xs) (suc (suc (suc (suc k)))) bytes contents is =
-        no_capture a b c d (take k xs) (bytes 0 0 (omega arith)) (bytes 1 0 (omega arith)) (bytes 2 0 (omega arith)) (bytes 3 0 (omega arith)) (begins_otherwise law a b c (d ∷ xs) contents is)
+        no_capture a b c d (take k xs) (bytes 0 0 (omega arith)) (bytes 1 0 (omega arith)) (bytes 2 0 (omega arith)) (bytes 3 0 (omega arith)) (begins_otherwise law a b c d xs contents is)
     at text zero bytes contents is = no_records (take zero text) (omega (arith, length-take zero text))
     at text (suc zero) bytes contents is = no_records (take 1 text) (omega (arith, length-take 1 text))
     at text (suc (suc zero)) bytes contents is = no_records (take 2 text) (omega (arith, length-take 2 text))
@@ -121,28 +133,3 @@ begins_no_capture law text c k bytes is = at text k bytes c is
     at (a ∷ []) k bytes contents is = no_records (take k (a ∷ [])) (omega (arith, length-take k (a ∷ [])))
     at (a ∷ b ∷ []) k bytes contents is = no_records (take k (a ∷ b ∷ [])) (omega (arith, length-take k (a ∷ b ∷ [])))
     at (a ∷ b ∷ c ∷ []) k bytes contents is = no_records (take k (a ∷ b ∷ c ∷ [])) (omega (arith, length-take k (a ∷ b ∷ c ∷ [])))
-
--- ---- a script that was read
-
--- a text was read, or its fault found
-pub reads_text : (fault : ScriptFault) (text : List ℕ) → Answers {A = Contents} (Err fault) (read_script text) → ReadsText (Err (stop_of_script fault)) text
-reads_text (Bad line cause) text answers = answers
-reads_text OutOfMemory text answers = tt
-
-pub reads_script : (r : Result Contents Stop) (name text : List ℕ) (before after : Disk) → (IsTrue before.told → read_script (before.contents name) ≡ read_script text) → ReadsText r text → ReadsScript r name before after
-reads_script (Ok c) name text before after same reads = λ told. same told ∙ reads
-reads_script (Err (stop.Script line cause)) name text before after same reads = λ told. same told ∙ reads
-reads_script (Err stop.Memory) name text before after same reads = tt
-reads_script (Err stop.Usage) name text before after same reads = absurd reads
-reads_script (Err stop.Read) name text before after same reads = absurd reads
-reads_script (Err stop.Write) name text before after same reads = absurd reads
-reads_script (Err (stop.Capture fault)) name text before after same reads = absurd reads
-
-pub reads_cause : (r : Result Contents Stop) (text : List ℕ) (f f' : ℕ) → f' ≡ f → ReadsText r text → HasStopCause r f f' 0 0
-reads_cause (Ok c) text f f' same reads = (same, refl)
-reads_cause (Err (stop.Script line cause)) text f f' same reads = (same, refl)
-reads_cause (Err stop.Memory) text f f' same reads = (same, refl)
-reads_cause (Err stop.Usage) text f f' same reads = absurd reads
-reads_cause (Err stop.Read) text f f' same reads = absurd reads
-reads_cause (Err stop.Write) text f f' same reads = absurd reads
-reads_cause (Err (stop.Capture fault)) text f f' same reads = absurd reads

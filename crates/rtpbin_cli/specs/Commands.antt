@@ -1,38 +1,36 @@
 -- What each command sends out, by the contents of its files.
-use Rattle.std.specs.Prelude.{ℕ, Bool, List, Result, Ok, Err}
-use Rattle.std.specs.List.{flat_map}
-use Rattle.pcap_file.specs.Capture.{Record}
+use Rattle.std.specs.Prelude.{ℕ, false, List, [], Result, Ok, Err}
 use Rattle.script_lang.specs.declared.fault.ScriptFault.{ScriptFault}
 use Rattle.script_lang.specs.Contents.{Contents}
 use Rattle.script_lang.specs.Grammar.{read_script}
-use Rattle.timeline.specs.declared.line.BinLine.{BinLine}
-use Rattle.timeline.specs.Times.{at_times}
-use Rattle.replay_model.specs.Inputs.{inputs, all_inputs}
-use Rattle.replay_model.specs.Log.{log_part, log}
 use Rattle.log_text.specs.Text.{line_text}
-use Rattle.rtpbin_cli.specs.Words.{Form, Replay, Dump}
-use Rattle.rtpbin_cli.specs.Output.{Output}
-use Rattle.rtpbin_cli.specs.Dump.{dump_output}
+use Rattle.command_core.specs.Output.{Output}
+use Rattle.dump_command.specs.Dump.{dump_output}
+use Rattle.replay_command.specs.Replay.{played_output}
+use Rattle.rtxsend_command.specs.Sent.{rtxsend_output}
+use Rattle.gen_command.specs.Generated.{generated_done}
+use Rattle.rtpbin_cli.specs.declared.words.Way.{Way}
+use Rattle.rtpbin_cli.specs.declared.words.Way.TheVariants.{Play, Answer}
+use Rattle.rtpbin_cli.specs.Words.{Form, Scripted, Dump, Gen}
 
--- the texts of lines, with the bytes of the packets that leave or without
-abbrev pub texts_of : Bool → List BinLine → List ℕ
-texts_of hex lines = flat_map (line_text hex) lines
+-- what goes out for a script
+abbrev pub scripted_output : Way → Contents → Output
+scripted_output (Play style) c = played_output style c
+scripted_output Answer c = rtxsend_output c
 
--- the log of the records that were replayed so far, each at its time behind the items up to it
-unfoldable pub replay_part : Bool → Contents → List Record → List ℕ
-replay_part hex c seen = texts_of hex (log_part c (inputs c.items (at_times seen)))
+abbrev pub scripted_by : Way → Result Contents ScriptFault → Result Output ScriptFault
+scripted_by way (Err fault) = Err fault
+scripted_by way (Ok c) = Ok (scripted_output way c)
 
--- and of all, with the items behind the last record
-unfoldable pub replay_whole : Bool → Contents → List Record → List ℕ
-replay_whole hex c seen = texts_of hex (log c (all_inputs c.items (at_times seen)))
+-- the last line of the replay of generated packets
+abbrev pub generated_text : ℕ → ℕ → List ℕ
+generated_text first count = line_text false (generated_done first count)
 
-abbrev pub replay_output : Bool → Contents → Output
-replay_output hex c = record { part = replay_part hex c; whole = replay_whole hex c }
-
-abbrev pub replay_by : Bool → Result Contents ScriptFault → Result Output ScriptFault
-replay_by hex (Err fault) = Err fault
-replay_by hex (Ok c) = Ok (replay_output hex c)
+abbrev pub generated_output : ℕ → ℕ → Output
+generated_output first count =
+    record { part = λ seen. []; whole = λ seen. generated_text first count }
 
 abbrev pub output_by : (List ℕ → List ℕ) → Form → Result Output ScriptFault
-output_by contents (Replay hex capture script) = replay_by hex (read_script (contents script))
+output_by contents (Scripted way capture script) = scripted_by way (read_script (contents script))
 output_by contents (Dump capture) = Ok dump_output
+output_by contents (Gen first count) = Ok (generated_output first count)

@@ -1,9 +1,5 @@
+pub mod Numbers
 pub mod Words
-pub mod Output
-pub mod Taken
-pub mod Clock
-pub mod Dump
 pub mod Commands
 pub mod Outcome
 pub mod Steps
-pub mod Plays

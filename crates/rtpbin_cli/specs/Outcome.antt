@@ -1,22 +1,20 @@
 -- How a run ends: what the input calls for, and what an answer says.
 use Rattle.std.specs.Prelude.{◌≡◌, ◌≢◌, ◌<◌, ◌⊎◌, ℕ, ◌-◌, IsTrue, List, [], ◌++◌, length, take}
-use Rattle.std.specs.Prelude.{codes, Option, Some, None, Result, Ok, Err, bytes_eq, if◌then◌else◌}
-use Rattle.std.specs.Fmt.{decimal}
+use Rattle.std.specs.Prelude.{Option, Some, None, Result, Ok, Err, bytes_eq, if◌then◌else◌}
 use Rattle.rtp_io.specs.Outside.{Disk, Adds, AddsFront}
-use Rattle.pcap_file.specs.declared.fault.CaptureFault.{CaptureFault}
-use Rattle.pcap_file.specs.Faults.{offset_of, word_of}
-use Rattle.pcap_file.specs.Capture.{Capture, capture_of}
-use Rattle.rtpbin_cli.specs.declared.status.Status.{Status}
-use Rattle.rtpbin_cli.specs.declared.status.Status.TheVariants as status
-use Rattle.rtpbin_cli.specs.declared.stop.Stop.{Stop}
-use Rattle.rtpbin_cli.specs.declared.stop.Stop.TheVariants as stop
+use Rattle.capture_file.specs.declared.fault.FileFault.{FileFault}
+use Rattle.capture_file.specs.Capture.{Capture, capture_of, empty}
+use Rattle.command_core.specs.declared.status.Status.{Status}
+use Rattle.command_core.specs.declared.status.Status.TheVariants as status
+use Rattle.command_core.specs.declared.stop.Stop.{Stop}
+use Rattle.command_core.specs.declared.stop.Stop.TheVariants as stop
 use Rattle.script_lang.specs.declared.fault.ScriptFault.{ScriptFault}
-use Rattle.script_lang.specs.declared.fault.ScriptFault.TheVariants as refusal
 use Rattle.script_lang.specs.declared.fault.ScriptCause.{ScriptCause}
-use Rattle.script_lang.specs.Causes.{word_of as word_for}
-use Rattle.rtpbin_cli.specs.Words.{Form, Replay, Dump, capture_name}
-use Rattle.rtpbin_cli.specs.Output.{Output, output_of}
-use Rattle.rtpbin_cli.specs.Taken.{TakesFew}
+use Rattle.command_core.specs.Stops.{memory_text, usage_text, text_of}
+use Rattle.command_core.specs.Stops.{status_of_stop, stop_of_script}
+use Rattle.rtpbin_cli.specs.Words.{Form, Scripted, Dump, Gen, capture_name}
+use Rattle.command_core.specs.Output.{Output, output_of}
+use Rattle.command_core.specs.Taken.{TakesFew}
 use Rattle.rtpbin_cli.specs.Commands.{output_by}
 
 -- ---- what the words, the script and the capture call for
@@ -31,10 +29,15 @@ abbrev pub want_from : Result Output ScriptFault → Capture → Wanted
 want_from (Err fault) capture = BadScript fault
 want_from (Ok output) capture = Written output capture
 
+-- the capture that is read; one without records stands for none
+abbrev pub capture_in : (List ℕ → List ℕ) → Form → Capture
+capture_in contents (Scripted way capture script) = capture_of (contents capture)
+capture_in contents (Dump capture) = capture_of (contents capture)
+capture_in contents (Gen first count) = empty None
+
 -- of a form, by the contents of the files
 abbrev pub wanted_of : (List ℕ → List ℕ) → Form → Wanted
-wanted_of contents form =
-    want_from (output_by contents form) (capture_of (contents (capture_name form)))
+wanted_of contents form = want_from (output_by contents form) (capture_in contents form)
 
 abbrev pub wanted : (List ℕ → List ℕ) → Option Form → Wanted
 wanted contents None = Usage
@@ -46,13 +49,8 @@ out_of Usage = []
 out_of (BadScript fault) = []
 out_of (Written output capture) = output_of output capture
 
--- why a run stopped, by the fault of its script; no bytes have want of memory
-abbrev pub stop_of_script : ScriptFault → Stop
-stop_of_script (refusal.Bad line cause) = stop.Script line cause
-stop_of_script refusal.OutOfMemory = stop.Memory
-
 -- and by the fault of its capture
-abbrev pub stop_from : Option CaptureFault → Option Stop
+abbrev pub stop_from : Option FileFault → Option Stop
 stop_from None = None
 stop_from (Some fault) = Some (stop.Capture fault)
 
@@ -62,43 +60,11 @@ stop_of Usage = Some stop.Usage
 stop_of (BadScript fault) = Some (stop_of_script fault)
 stop_of (Written output capture) = stop_from capture.fault
 
-abbrev pub status_of_stop : Stop → Status
-status_of_stop stop.Usage = status.Usage
-status_of_stop (stop.Script line cause) = status.Script
-status_of_stop stop.Read = status.Read
-status_of_stop (stop.Capture fault) = status.Capture
-status_of_stop stop.Write = status.Write
-status_of_stop stop.Memory = status.Memory
-
 abbrev pub status_of : Option Stop → Status
 status_of None = status.Done
 status_of (Some why) = status_of_stop why
 
 -- ---- texts
-
-abbrev pub script_text : ℕ → ScriptCause → List ℕ
-script_text line cause = decimal line ++ codes ": " ++ word_for cause
-
-abbrev pub capture_text : CaptureFault → List ℕ
-capture_text fault = decimal (offset_of fault) ++ codes ": " ++ word_of fault
-
-abbrev pub memory_text : List ℕ
-memory_text = codes "rtpbin: out of memory\n"
-
-abbrev pub usage_text : List ℕ
-usage_text =
-    codes "rtpbin: usage: replay [-x] CAPTURE SCRIPT | dump CAPTURE | "
-    ++ codes "rtxsend CAPTURE SCRIPT | gen NUMBER COUNT | live [-x] CAPTURE SCRIPT | "
-    ++ codes "sdp CAPTURE SDP TIMES | depay FORMAT PT CAPTURE SCRIPT\n"
-
-abbrev pub text_of : Stop → List ℕ
-text_of stop.Usage = usage_text
-text_of (stop.Script line cause) =
-    codes "rtpbin: script line " ++ script_text line cause ++ codes "\n"
-text_of stop.Read = codes "rtpbin: read failed\n"
-text_of (stop.Capture fault) = codes "rtpbin: capture at " ++ capture_text fault ++ codes "\n"
-text_of stop.Write = []
-text_of stop.Memory = memory_text
 
 -- the text that goes with what the input calls for
 abbrev pub err_from : Option Stop → List ℕ
@@ -137,13 +103,15 @@ read_out (Some form) after =
 -- the names of the form may be opened
 abbrev pub MayOpen : Option Form → Disk → Type 0
 MayOpen None disk = Unit {0}
-MayOpen (Some (Replay hex capture script)) disk =
+MayOpen (Some (Scripted way capture script)) disk =
     IsTrue (disk.may_open script) × IsTrue (disk.may_open capture)
 MayOpen (Some (Dump capture)) disk = IsTrue (disk.may_open capture)
+MayOpen (Some (Gen first count)) disk = Unit {0}
 
 -- what is opened is told, or nothing is opened
 abbrev pub Knows : Option Form → Disk → Type 0
 Knows None disk = Unit {0}
+Knows (Some (Gen first count)) disk = Unit {0}
 Knows (Some form) disk = IsTrue disk.told
 
 -- A read failed exactly where the count of the files rose, and a write where that of a sink did.
@@ -179,7 +147,8 @@ HasOut answer want form after old new = Adds (out_of want) old new
 -- what was taken from the capture, where its lines could not all be written
 abbrev pub HasTaken : Wanted → Option Form → Disk → Option (List ℕ) → Option (List ℕ) → Type 0
 HasTaken (Written output capture) (Some form) after old new =
-    TakesFew output capture.records (given_of (capture_name form) after) old new
+    TakesFew output (after.contents (capture_name form)) (given_of (capture_name form) after)
+    old new
 HasTaken want form after old new = Unit {0}
 
 -- why a run may stop with a text of its own: no form of words, a failed read, or what else the
@@ -228,7 +197,7 @@ HasSomeErr status.Script form f f' o o' old new =
     (line : ℕ) × (cause : ScriptCause) × Adds (text_of (stop.Script line cause)) old new
 HasSomeErr status.Read form f f' o o' old new = Adds (text_of stop.Read) old new
 HasSomeErr status.Capture form f f' o o' old new =
-    (fault : CaptureFault) × Adds (text_of (stop.Capture fault)) old new
+    (fault : FileFault) × Adds (text_of (stop.Capture fault)) old new
 HasSomeErr status.Write form f f' o o' old new = HasCutErr (MayStop form f f') o o' old new
 HasSomeErr status.Memory form f f' o o' old new = Adds memory_text old new
 

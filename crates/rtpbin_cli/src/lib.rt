@@ -1,17 +1,11 @@
 //! The top call of `rtpbin`: words, files and sinks in, a status out.
 #![tactic(auto)]
 
-mod clock;
-mod dump;
-mod player;
-mod replay;
-mod script;
-mod status;
-mod stop;
+mod numbers;
 #[cfg(test)]
 mod tests;
 mod tool;
 mod words;
 
-pub use status::Status;
+pub use command_core::Status;
 pub use tool::run_tool;

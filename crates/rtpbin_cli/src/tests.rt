@@ -1,8 +1,8 @@
 //! Worked cases over files and sinks in memory: what is written, and how the run ends.
 ghost use Rattle.std.specs.Prelude.{◌<◌};
 
-use crate::status::Status;
 use crate::tool::run_tool;
+use command_core::Status;
 use rtp_io::{MemoryFiles, MemorySink, PULL_BYTES};
 use rtp_units::OutOfMemory;
 use std::alloc::Global;
@@ -180,6 +180,31 @@ fn two_sessions(rt: HostRuntime) -> Result<(), Fail> {
     assert_eq!(rt; status, Status::Done);
     assert_eq!(rt; out.bytes(), TWO_SESSIONS_LOG);
     assert_eq!(rt; err.bytes().len(), 0);
+    Ok(())
+}
+
+// Each payload that leaves is a media unit.
+#[test]
+fn units(rt: HostRuntime) -> Result<(), Fail> {
+    let alloc = rt.alloc();
+    let words = vec![in alloc;
+        String::from_str(alloc, "depay")?,
+        String::from_str(alloc, "pcmu")?,
+        String::from_str(alloc, "096")?,
+        String::from_str(alloc, "c")?,
+        String::from_str(alloc, "s")?,
+    ]?;
+    let mut files = MemoryFiles::new(alloc)?;
+    files.add(alloc, "c", &capture_of(alloc, &[(1, 0, 0)])?)?;
+    files.add(alloc, "s", SCRIPT)?;
+    let mut out = MemorySink::with_room(alloc, 1000)?;
+    let mut err = MemorySink::with_room(alloc, 1000)?;
+    let status = run_tool(alloc, &words, &mut files, &mut out, &mut err);
+    assert_eq!(rt; status, Status::Done);
+    assert_eq!(rt;
+        out.bytes(),
+        b"100000000 unit 0 65537 65537 0 01020304\ndone 1 1 0\n".as_slice()
+    );
     Ok(())
 }
 

@@ -1,19 +1,22 @@
 //! The top call.
 ghost use Rattle.std.specs.Prelude.{◌≡◌, ◌≢◌, ◌⊎◌, ◌<◌, ◌-◌, ◌^◌, None, Some, IsTrue};
 ghost use Rattle.rtp_io.specs.Outside.{SameDisk};
-ghost use Rattle.rtpbin_cli.specs.Words.{form_of, texts, Replay};
+ghost use Rattle.rtpbin_cli.specs.Words.{form_of, texts, Scripted};
+ghost use Rattle.rtpbin_cli.specs.Commands.{scripted_output};
 ghost use Rattle.rtpbin_cli.specs.Outcome.{HasErr, HasOut, HasSomeErr, HasTaken, HasStatusCause};
 ghost use Rattle.rtpbin_cli.specs.Outcome.{IsAnswer, IsUsageOr, Knows, MayOpen};
 ghost use Rattle.rtpbin_cli.specs.Outcome.{status_of, stop_of, wanted, wanted_of};
-ghost use Rattle.rtpbin_cli.specs.Steps.{HasStopCause, IsOfForm, IsUsage, Reports, Runs, Told};
+ghost use Rattle.command_core.specs.Steps.{Covers, HasStopCause};
+ghost use Rattle.rtpbin_cli.specs.Steps.{IsOfForm, IsUsage, Reports, Runs, Told};
 
-use crate::dump::dump_open;
-use crate::replay::replay_open;
-use crate::script::read_script;
-use crate::status::Status;
-use crate::stop::Stop;
-use crate::words::{Asked, asked_by};
+use crate::words::{Asked, Way, asked_by};
+use command_core::{Status, Stop, read_script};
+use dump_command::dump_open;
+use gen_command::print_generated;
+use replay_command::play_open;
 use rtp_io::{Failed, Files, Sink, write_piece};
+use rtxsend_command::rtxsend_open;
+use script_lang::Script;
 use script_lang::laws::begins_no_capture;
 use std::alloc::{AllocError, Global};
 
@@ -134,24 +137,25 @@ fn run<F: Files, O: Sink>(
 {
     match asked_by(words) {
         Some(
-            Asked::Replay {
-                hex,
+            Asked::Scripted {
+                way,
                 capture,
                 script,
             },
-        ) => replay(alloc, hex, capture, script, files, out),
+        ) => follow(alloc, way, capture, script, files, out),
         Some(Asked::Dump { capture }) => match files.open_file(capture) {
             Ok(()) => dump_open(alloc, files, out),
             Err(Failed) => Err(Stop::Read),
         },
+        Some(Asked::Gen { first, count }) => print_generated(alloc, first, count, out),
         None => Err(Stop::Usage),
     }
 }
 
-// Reads the script, and then replays the capture by it.
-fn replay<F: Files, O: Sink>(
+// Reads the script, and then does with the capture what is asked for.
+fn follow<F: Files, O: Sink>(
     alloc: Global,
-    hex: bool,
+    way: Way,
     capture: &str,
     script: &str,
     files: &mut F,
@@ -163,8 +167,8 @@ fn replay<F: Files, O: Sink>(
     requires out { O.faults out.old < 2 ^ 64 - 1 }
     ensures same { SameDisk (F.disk files.old) (F.disk files.new) }
     ensures runs { IsTrue (F.disk files.old).told
-        → Runs result (wanted_of (F.disk files.old).contents (Replay hex capture.now script.now))
-        (Some (Replay hex capture.now script.now)) (F.disk files.new)
+        → Runs result (wanted_of (F.disk files.old).contents (Scripted way capture.now script.now))
+        (Some (Scripted way capture.now script.now)) (F.disk files.new)
         (O.written out.old) (O.written out.new) }
     ensures of_form { IsOfForm result }
     ensures cause { HasStopCause result (F.faults files.old) (F.faults files.new)
@@ -177,7 +181,31 @@ fn replay<F: Files, O: Sink>(
         Err(stop) => return Err(stop),
     };
     match files.open_file(capture) {
-        Ok(()) => replay_open(alloc, &script, hex, files, out),
+        Ok(()) => follow_open(alloc, &script, way, files, out),
         Err(Failed) => Err(Stop::Read),
+    }
+}
+
+// Does it with the capture in the open file.
+fn follow_open<F: Files, O: Sink>(
+    alloc: Global,
+    script: &Script,
+    way: Way,
+    files: &mut F,
+    out: &mut O,
+) -> Result<(), Stop>
+    requires files { F.faults files.old < 2 ^ 64 - 1 }
+    requires out { O.faults out.old < 2 ^ 64 - 1 }
+    ensures same { SameDisk (F.disk files.old) (F.disk files.new) }
+    ensures opened { IsTrue (F.disk files.old).told
+        → (F.disk files.new).opened ≡ (F.disk files.old).opened }
+    ensures covers { Covers (scripted_output way script.now) result
+        (F.disk files.old) (F.disk files.new) (O.written out.old) (O.written out.new) }
+    ensures cause { HasStopCause result (F.faults files.old) (F.faults files.new)
+        (O.faults out.old) (O.faults out.new) }
+{
+    match way {
+        Way::Play(style) => play_open(alloc, script, style, files, out),
+        Way::Answer => rtxsend_open(alloc, script, files, out),
     }
 }

@@ -138,16 +138,16 @@ none_said r e h k = cc
 same_said : (r : Result (Option Entry) ScriptCause) (x e : Entry) → r ≡ Ok (Some x) → r ≡ Ok (Some e) → x ≡ e
 same_said r x e h k = cc
 
-less_left : (text : Bor (List ℕ)) (behind : Option (Bor (List ℕ))) (n most : ℕ) → IfSome behind (λ rest. length rest.now < length text.now)
+pub less_left : (text : Bor (List ℕ)) (behind : Option (Bor (List ℕ))) (n most : ℕ) → IfSome behind (λ rest. length rest.now < length text.now)
     → n + (length text.now + 1) ≤ most + 1 → n + 1 + size_left behind ≤ most + 1
 less_left text None n most h k = omega arith
 less_left text (Some rest) n most h k = omega arith
 
-unless_ok : (c : Option ScriptCause) (e f : Entry) → unless c e ≡ Ok f → (c ≡ None) × (e ≡ f)
+pub unless_ok : (c : Option ScriptCause) (e f : Entry) → unless c e ≡ Ok f → (c ≡ None) × (e ≡ f)
 unless_ok None e f h = (refl, cc)
 unless_ok (Some c) e f h = absurd (no_ok c f h)
 
-chosen_ok : (b : Bool) (c : ScriptCause) (r : Result Entry ScriptCause) (e : Entry) → (if b then Err c else r) ≡ Ok e → r ≡ Ok e
+pub chosen_ok : (b : Bool) (c : ScriptCause) (r : Result Entry ScriptCause) (e : Entry) → (if b then Err c else r) ≡ Ok e → r ≡ Ok e
 chosen_ok true c r e h = absurd (no_ok c e h)
 chosen_ok false c r e h = h
 
@@ -185,7 +185,7 @@ line_said f line words e w p h =
     ∙ ap (λ r. r >>= λ entry. Ok (Some entry)) h
 
 -- what a line said is taken up
-with_line_facts : (placed : List Placed) (draft new : Facts) (n : ℕ) (line : List ℕ) (e : Option Entry) → draft ≡ facts_of placed → IsSound draft
+pub with_line_facts : (placed : List Placed) (draft new : Facts) (n : ℕ) (line : List ℕ) (e : Option Entry) → draft ≡ facts_of placed → IsSound draft
     → line_behind draft line ≡ Ok e → new ≡ with_optional draft n e → (new ≡ facts_of (with_line n placed e)) × IsSound new
 with_line_facts placed draft new n line None stands sound said is = (is ∙ stands, subst IsSound (sym is) sound)
 with_line_facts placed draft new n line (Some e) stands sound said is =

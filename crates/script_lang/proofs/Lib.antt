@@ -11,3 +11,4 @@ pub mod GrammarLemmas
 pub mod WordLemmas
 pub mod EntryLemmas
 pub mod RoundLemmas
+pub mod TimesLemmas

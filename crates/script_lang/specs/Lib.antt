@@ -11,3 +11,4 @@ pub mod Grammar
 pub mod Written
 pub mod Reading
 pub mod Sound
+pub mod Times

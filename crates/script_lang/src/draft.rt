@@ -46,6 +46,7 @@ impl Model for Draft {
 
 impl Draft {
     ghost use Rattle.script_lang.specs.Facts.{facts_of};
+    ghost use Rattle.script_lang.specs.Times.{facts_before};
     ghost use Rattle.script_lang.specs.Tests.{cause_of, is_declared as declared_test, has_port as port_test, has_pt as pt_test, has_rtx as rtx_test, has_ssrc as ssrc_test, is_set as set_test, has_later, is_flushing as flushing_test, action_lacks_session, action_fails_flush};
     ghost use Rattle.script_lang.specs.Contents.{contents_of};
     ghost use Rattle.script_lang.specs.Entries.{entry_fits, item_fits};
@@ -61,6 +62,21 @@ impl Draft {
     {
         Ok(Draft {
             sessions: Vec::new(alloc),
+            pts: IndexMap::with_capacity(alloc, 0)?,
+            rtx: IndexMap::with_capacity(alloc, 0)?,
+            fids: Vec::new(alloc),
+            settings: Vec::new(alloc),
+            items: Vec::new(alloc),
+            flushes: [None; 8],
+        })
+    }
+
+    /// These sessions were declared.
+    pub fn of_sessions(alloc: Global, sessions: &[SessionLine]) -> Result<Draft, OutOfMemory>
+        ensures { IfOk result (λ draft. draft ≡ facts_before sessions.now) }
+    {
+        Ok(Draft {
+            sessions: Vec::from_slice(alloc, sessions)?,
             pts: IndexMap::with_capacity(alloc, 0)?,
             rtx: IndexMap::with_capacity(alloc, 0)?,
             fids: Vec::new(alloc),

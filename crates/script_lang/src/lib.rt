@@ -15,10 +15,12 @@ mod setting;
 #[cfg(test)]
 mod tests;
 mod text;
+mod times;
 mod writing;
 
 pub use fault::{ScriptCause, ScriptFault};
 pub use reading::{MAX_SCRIPT, read};
 pub use script::{Action, Item, PtLine, Script, SessionLine};
 pub use setting::ScriptSettings;
+pub use times::read_times;
 pub use writing::write;

@@ -42,9 +42,14 @@ pub fn read(alloc: Global, bytes: &[u8]) -> Result<Script, ScriptFault>
     draft.finish(alloc)
 }
 
-// Takes up what a line says.
+/// Takes up what a line says.
 #[tactic(auto, unfolding(crate::specs::Grammar::line_behind))]
-fn read_line(alloc: Global, draft: &mut Draft, number: u32, line: &[u8]) -> Result<(), ScriptFault>
+pub(crate) fn read_line(
+    alloc: Global,
+    draft: &mut Draft,
+    number: u32,
+    line: &[u8],
+) -> Result<(), ScriptFault>
     ensures { AfterLine result (line_behind draft.old line.now) number draft.old draft.new }
 {
     let words = words_in(alloc, line)?;

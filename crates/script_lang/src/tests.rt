@@ -346,3 +346,18 @@ fn defaults(rt: HostRuntime) -> Result<(), Fail> {
     assert_eq!(rt; text.bytes(), want.as_bytes());
     Ok(())
 }
+
+#[test]
+fn settings_and_times_of_a_session(rt: HostRuntime) -> Result<(), Fail> {
+    let sessions = [SessionLine {
+        session: 3,
+        rtp: 5,
+        rtcp: 6,
+    }];
+    let text = b"set latency 100\nat 5 flush-start 3\nat 6 flush-stop 3\n";
+    let script = read_times(rt.alloc(), &sessions, text)?;
+    assert_eq!(rt; script.sessions.len(), 1);
+    assert_eq!(rt; script.items.len(), 2);
+    assert_eq!(rt; script.settings.latency, 100_000_000);
+    Ok(())
+}

@@ -1,4 +1,4 @@
-use Rattle.std.proofs.Common.{refl, rules}
+use Rattle.std.proofs.Common.{refl}
 use Rattle.bin_core.proofs.Requesting.{none_noted, one_noted, all_noted}
 use Rattle.bin_core.proofs.requests.note.Goals as goal
 

@@ -1,4 +1,3 @@
-use Rattle.std.proofs.Common.{ℕ, ◌≡◌, ◌∙◌, ap, sym, refl, subst, List, [], ◌∷◌, ◌++◌, rules}
 use Rattle.bin_core.proofs.Sending.{empty_is, empty_not, sends_none, sends_some}
 use Rattle.bin_core.proofs.requests.send.Goals as goal
 

@@ -1,5 +1,4 @@
-use Rattle.std.proofs.Common.{ℕ, zero, suc, ◌≡◌, ◌<◌, Bool, true, false, refl, List, [], ◌∷◌, length, arith, sym, ◌∙◌, rules}
-use Rattle.std.specs.Prelude.{nat_lt, get_or}
+use Rattle.std.proofs.Common.{arith, sym}
 use Rattle.std.proofs.lemmas.Grind.{common_steps}
 use Rattle.bin_core.proofs.Marking.{passes_past, passes_get}
 use Rattle.bin_core.proofs.touched.passes.Goals as goal

@@ -3,7 +3,7 @@ use Rattle.replay_model.specs.Log.{served}
 use Rattle.bin_core.proofs.Serving.{controls_at}
 use Rattle.bin_core.proofs.agenda.Agenda.control.Goals as goal
 
-pub returns : goal.returns
-returns c = λ k base tl h.
-    controls_at k base c.args.item.now c.max-self.result c.serve.new.self c.control.new.self c.serve.new.lines c.control.new.lines (served k c.args.item.now.time tl)
-    c.max-self.ensures c.in_ok-control.ensures (c.in_ok-serve.ensures k base tl h)
+pub returns-clause-goes : goal.returns-clause-goes
+returns-clause-goes c = λ k base tl h.
+    controls_at k base c.args.item.now c.serve.new.self _ c.serve.new.lines c.control.new.lines (served k c.args.item.now.time tl)
+    refl refl c.max-self.ensures c.in_ok-control.ensures.stands (c.in_ok-serve.ensures.goes k base tl h)

@@ -1,5 +1,4 @@
-use Rattle.std.proofs.Common.{ℕ, ◌≡◌, ◌∙◌, Option, Some, None, List, refl, sym, ap, subst, length, true, false, rules}
-use Rattle.replay_model.specs.declared.Wake.{Wake}
+use Rattle.std.proofs.Common.{ℕ, ◌≡◌, ◌∙◌, Option, Some, List, refl, sym, ap, length, arith}
 use Rattle.replay_model.specs.declared.Due.{Due}
 use Rattle.replay_model.specs.declared.Due.TheVariants as due
 use Rattle.replay_model.specs.Serving.{first_wake, earlier, up_to}
@@ -26,6 +25,22 @@ tick-requires-clause-lane c =
     let at : c.up_to.result ≡ Some (due.Turns c.in-Some-Turns.wake) = c.in-Some-Turns.is ∙ ap (λ (d : Due). Some d) c.in-Some-Turns.field-0-is in
     let is : IsTurn ls c.args.limit c.in-Some-Turns.wake = turn_is (report_by c.args.reports next) ls c.args.limit c.in-Some-Turns.wake (sym found ∙ at) in
     is.below
+
+pub report-requires-clause-time : goal.report-requires-clause-time
+report-requires-clause-time c =
+    let next : Option ℕ = c.args.self.now.next_report in
+    let ls : List Lane = c.args.self.now.stage.lanes.items in
+    let report : c.if-reports.report ≡ report_by c.args.reports next =
+    elim c.if-reports.branch [
+      | then-reports w ↦ w.report-is ∙ sym (ap (λ b. report_by b next) w.if-reports.true)
+      | else-reports w ↦ w.report-is ∙ sym (ap (λ b. report_by b next) w.if-reports.false)
+    ] in
+    let found : c.up_to.result ≡ up_to c.args.limit (earlier (report_by c.args.reports next) (first_wake (wakes_in ls) (length ls))) =
+    c.up_to.ensures ∙ ap (up_to c.args.limit) (c.earlier.ensures ∙ ap (λ (r : Option ℕ). earlier r c.first_wake.result) report
+    ∙ ap (earlier (report_by c.args.reports next)) (c.first_wake.ensures ∙ ap (λ (xs : List Lane). first_wake (wakes_in xs) (length xs)) c.as_slice.ensures.value)) in
+    let at : c.up_to.result ≡ Some (due.Reports c.in-Some-Reports.time) = c.in-Some-Reports.is ∙ ap (λ (d : Due). Some d) c.in-Some-Reports.field-0-is in
+    let is : IsReport c.args.reports next c.args.limit c.in-Some-Reports.time = report_is c.args.reports next (first_wake (wakes_in ls) (length ls)) c.args.limit c.in-Some-Reports.time (sym found ∙ at) in
+    omega (arith, is.le, c.requires.limit)
 
 pub returns-in-None-clause-none : goal.returns-in-None-clause-none
 returns-in-None-clause-none c =
@@ -86,7 +101,7 @@ returns-in_ok-tick-in-Some-Turns-clause-fewer c =
     ∙ ap (earlier (report_by c.args.reports next)) (c.first_wake.ensures ∙ ap (λ (xs : List Lane). first_wake (wakes_in xs) (length xs)) c.as_slice.ensures.value)) in
     let at : c.up_to.result ≡ Some (due.Turns c.in-Some-Turns.wake) = c.in-Some-Turns.is ∙ ap (λ (d : Due). Some d) c.in-Some-Turns.field-0-is in
     let is : IsTurn ls c.args.limit c.in-Some-Turns.wake = turn_is (report_by c.args.reports next) ls c.args.limit c.in-Some-Turns.wake (sym found ∙ at) in
-    let new : Agenda = record { stage = c.tick.new.self; interval = c.args.self.now.interval; next_report = c.args.self.now.next_report; latest = c.max-self.result } in
+    let new : Agenda = record { stage = c.tick.new.self; interval = c.args.self.now.interval; next_report = c.args.self.now.next_report; latest = c.max-self.result; room = c.args.self.now.room; small = c.args.self.now.small } in
     λ e. turn_falls c.args.limit c.in-Some-Turns.wake.time c.in-Some-Turns.wake.lane c.args.self.now new is.below is.le is.is c.in_ok-tick-in-Some-Turns.ensures.later c.tick.ensures.same refl
 
 pub returns-in_ok-tick-in-Some-Turns-clause-first : goal.returns-in_ok-tick-in-Some-Turns-clause-first
@@ -105,5 +120,5 @@ returns-in_ok-tick-in-Some-Turns-clause-first c =
     λ e k base tl h. (
       due.Turns c.in-Some-Turns.wake,
       due_by k base c.args.self.now c.args.lines.now tl c.args.reports c.args.limit h ∙ sym found ∙ at,
-      turns_at k base c.in-Some-Turns.wake.time c.in-Some-Turns.wake.lane c.max-self.result c.args.self.now c.tick.new.self c.args.lines.now c.tick.new.lines tl c.max-self.ensures c.in_ok-tick-in-Some-Turns.ensures.stands h,
+      turns_at k base c.in-Some-Turns.wake.time c.in-Some-Turns.wake.lane c.args.self.now _ c.args.lines.now c.tick.new.lines tl refl refl c.max-self.ensures c.in_ok-tick-in-Some-Turns.ensures.stands h,
     )

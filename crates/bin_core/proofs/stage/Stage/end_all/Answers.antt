@@ -17,8 +17,14 @@ loop-number-preserved c = (
   c.end_lane.ensures.same ∙ c.loop-number.invariant.1,
 )
 
-pub returns : goal.returns
-returns c =
+pub returns-clause-stands : goal.returns-clause-stands
+returns-clause-stands c =
     let same : vec_len c.args.self.now.lanes ≡ length c.args.self.now.lanes.items = search rules in
     lanes_all c.args.time c.loop-number.number c.args.self.now c.loop-number.self c.args.lines.now c.loop-number.lines
     (omega (arith, c.loop-number-test.false, c.loop-number.auto.number-end, c.len-number-end.ensures, same)) c.loop-number.invariant.0
+
+pub returns-clause-same : goal.returns-clause-same
+returns-clause-same c = c.loop-number.invariant.1
+
+pub returns-in_err-end_lane-clause-same : goal.returns-in_err-end_lane-clause-same
+returns-in_err-end_lane-clause-same c = c.end_lane.ensures.same ∙ c.loop-number.invariant.1

@@ -1,5 +1,4 @@
-use Rattle.std.proofs.Common.{ℕ, ◌≡◌, ◌∙◌, refl, sym, ap, subst, List, rules}
-use Rattle.jitter_model.specs.declared.Entry.TheVariants.{Ends}
+use Rattle.std.proofs.Common.{ℕ, refl, subst, List, rules}
 use Rattle.bin_core.specs.Stages.{Sends}
 use Rattle.bin_core.proofs.Outcomes.{on_ok}
 use Rattle.bin_core.proofs.Ending.{ends_one, ends_not}

@@ -1,9 +1,10 @@
-use Rattle.std.proofs.Common.{ℕ, refl, subst, List, ap, sym, ◌∙◌}
+use Rattle.std.proofs.Common.{ℕ, refl, subst, List, sym}
 use Rattle.jitter_model.specs.declared.Entry.TheVariants.{Clock}
 use Rattle.jitter_model.specs.Laws.{IsLater}
 use Rattle.lane_core.proofs.Placing.{wakes_same}
 use Rattle.bin_core.specs.Stages.{Sends}
 use Rattle.bin_core.proofs.Outcomes.{on_ok}
+use Rattle.bin_core.proofs.Owing.{ticks_rest}
 use Rattle.bin_core.proofs.Staging.{settles, same_but_one}
 use Rattle.bin_core.proofs.stage.Stage.tick.Goals as goal
 
@@ -25,4 +26,12 @@ pub returns-clause-later : goal.returns-clause-later
 returns-clause-later c =
     on_ok c.send.result _ _
     (λ sends. subst (IsLater c.args.time) (sym (wakes_same c.args.self.now.lanes.items c.args.number c.tick.new.self c.requires.lane)) c.in_ok-numbers.ensures.later)
+    c.send.ensures
+
+pub returns-clause-rests : goal.returns-clause-rests
+returns-clause-rests c =
+    on_ok c.send.result _ _
+    (λ sends. ticks_rest c.args.self.now _ c.args.number c.args.time c.tick.new.self.session c.tick.new.self.ssrc c.index_mut-lane.result.now c.tick.new.self c.in_ok-numbers.numbers.items c.tick.new.lines c.send.new.lines
+    c.requires.lane c.index_mut-lane.ensures.value refl refl c.tick.ensures.stays
+    (subst (λ (xs : List ℕ). Sends c.args.time c.tick.new.self.session c.tick.new.self.ssrc xs c.args.self.now.front c.send.new.front c.tick.new.lines c.send.new.lines) c.as_slice.ensures.value sends))
     c.send.ensures

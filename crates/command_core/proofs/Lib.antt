@@ -1,0 +1,3 @@
+pub mod Progress
+pub mod Clocks
+pub mod Scripts

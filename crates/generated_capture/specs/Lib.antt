@@ -1,0 +1,4 @@
+pub mod Deliveries
+pub mod Series
+pub mod Generated
+pub mod Taking

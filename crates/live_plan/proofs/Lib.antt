@@ -1,0 +1,4 @@
+pub mod Clocks
+pub mod Outcomes
+pub mod Drafting
+pub mod Planning

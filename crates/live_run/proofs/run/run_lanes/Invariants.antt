@@ -1,0 +1,4 @@
+use Rattle.live_run.proofs.run.run_lanes.Given as goal
+
+abbrev pub ghosts-run_named : goal.ghosts-run_named
+ghosts-run_named g a = record { plan = a.plan.now }

@@ -1,0 +1,4 @@
+pub mod Listing
+pub mod Short
+pub mod Keeping
+pub mod Holding

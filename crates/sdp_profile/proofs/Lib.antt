@@ -1,0 +1,9 @@
+pub mod ListLemmas
+pub mod TextLemmas
+pub mod NumberLemmas
+pub mod FitsLemmas
+pub mod SectionLemmas
+pub mod PairLemmas
+pub mod FormatLemmas
+pub mod SoundLemmas
+pub mod ScriptLemmas

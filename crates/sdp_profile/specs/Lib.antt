@@ -1,0 +1,12 @@
+pub mod Causes
+pub mod Text
+pub mod Numbers
+pub mod Attributes
+pub mod Media
+pub mod Formats
+pub mod Pairs
+pub mod Sections
+pub mod Descriptions
+pub mod Sound
+pub mod Reading
+pub mod Scripts
