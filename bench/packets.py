@@ -32,14 +32,18 @@ def arrivals(count):
     return sorted((i * 1000 + late.get(i, 0), i) for i in range(count) if i % 50 != 7)
 
 
-def write_capture(path, arriving, sources=1):
-    """Each packet of `arriving` by its arrival in microseconds and its index, from so many sources."""
+def write_frames(path, frames):
+    """Each frame by its arrival in microseconds and its bytes."""
     with open(path, 'wb') as file:
         file.write(struct.pack('<IHHiIII', 0xa1b2c3d4, 2, 4, 0, 0, 262144, 1))
-        for at, i in arriving:
-            for source in range(sources):
-                bytes_ = frame(i + 1, 90 * i, 0x11223344 + source)
-                file.write(struct.pack('<IIII', at // 10**6, at % 10**6, len(bytes_), len(bytes_)) + bytes_)
+        for at, bytes_ in frames:
+            file.write(struct.pack('<IIII', at // 10**6, at % 10**6, len(bytes_), len(bytes_)) + bytes_)
+
+
+def write_capture(path, arriving, sources=1):
+    """Each packet of `arriving` by its arrival in microseconds and its index, from so many sources."""
+    write_frames(path, ((at, frame(i + 1, 90 * i, 0x11223344 + source))
+                        for at, i in arriving for source in range(sources)))
 
 
 def seconds(program, capture, script):

@@ -1,7 +1,7 @@
 """Running a program and another implementation of the same rules, side by side."""
 import multiprocessing
+import resource
 import subprocess
-import time
 
 SLOW = 5.0
 
@@ -28,12 +28,18 @@ def told(oracle, words, most=None):
     return b''.join(out), text, status
 
 
+def processor_time():
+    """Seconds that the processes took that this one started and that have ended."""
+    usage = resource.getrusage(resource.RUSAGE_CHILDREN)
+    return usage.ru_utime + usage.ru_stime
+
+
 def written(program, words):
-    """The same of the program, and how long it ran."""
-    began = time.monotonic()
+    """The same of the program, and how many seconds of processor time it took."""
+    began = processor_time()
     ran = subprocess.run([program, *words], stdin=subprocess.DEVNULL, capture_output=True,
                          timeout=120, check=False)
-    return (ran.stdout, ran.stderr, ran.returncode), time.monotonic() - began
+    return (ran.stdout, ran.stderr, ran.returncode), processor_time() - began
 
 
 def over_seeds(compared, first, count, workers, *more):

@@ -1,7 +1,7 @@
 -- A bin stands for inputs, the first of which is the first.
 use Rattle.std.proofs.Common.{ℕ, ◌≡◌, ◌≤◌, Bool, true, false, refl, sym, ap, subst, ◌∙◌, List, [], ◌∷◌, ◌++◌, None, Some, arith}
 use Rattle.std.specs.Prelude.{◌||◌, reverse}
-use Rattle.replay_model.proofs.Lanes.{by_cases}
+use Rattle.bin_core.proofs.Cases.{by_cases}
 use Rattle.std.proofs.lemmas.List.{append_assoc, append-nil, reverse-append}
 use Rattle.script_lang.specs.Contents.{Contents}
 use Rattle.timeline.specs.declared.line.BinLine.{BinLine}
@@ -19,7 +19,7 @@ use Rattle.replay_model.specs.Log.{served, with_item, with_input, timeline, with
 use Rattle.lane_core.specs.Lanes.{Base, Adds}
 use Rattle.bin_core.specs.declared.bin.Bin.{Bin}
 use Rattle.bin_core.specs.declared.agenda.Agenda.{Agenda}
-use Rattle.bin_core.specs.Words.{time_of, is_ahead}
+use Rattle.bin_core.specs.Words.{time_of, ahead_of}
 use Rattle.bin_core.specs.Agendas.{Holds, GoesTo, ServesFirst, ServesNothing, CompletesAll, due_first}
 use Rattle.bin_core.specs.Bins.{StandsFor, BinStands, ServesMore, TakesOn, Completes, HasServed}
 use Rattle.bin_core.proofs.Serving.{Steps, Stops, served_after}
@@ -114,7 +114,7 @@ Parts = (c : Contents) (limit t : ℕ) (tl : Timeline) → limit ≤ t → serve
 pub serves_more :
     (c : Contents) (seen : List Input) (told : List BinLine) (t : ℕ) (old new : Bin) (before after : List BinLine)
     → Steps → Parts
-    → time_of old ≤ t → time_of new ≡ t → is_ahead new ≡ true
+    → time_of old ≤ t → time_of new ≡ t → ahead_of new ≡ true
     → ServesFirst true t old.agenda new.agenda before after
     → BinStands c old seen told
     → ServesMore c seen told before after new
@@ -151,7 +151,7 @@ serves_more c seen told t old new before after step parts le time ahead serves s
 
 pub serves_none :
     (c : Contents) (seen : List Input) (told : List BinLine) (t : ℕ) (old new : Bin) (before after : List BinLine)
-    → time_of old ≤ t → time_of new ≡ t → (is_ahead new ≡ false → is_ahead old ≡ false)
+    → time_of old ≤ t → time_of new ≡ t → (ahead_of new ≡ false → ahead_of old ≡ false)
     → ServesNothing true t old.agenda new.agenda before after
     → BinStands c old seen told
     → ServesMore c seen told before after new
@@ -195,7 +195,7 @@ has_served t old new before after stop time same serves c seen told st =
 
 pub completes :
     (c : Contents) (seen : List Input) (told : List BinLine) (old : Bin) (before after : List BinLine)
-    → is_ahead old ≡ false
+    → ahead_of old ≡ false
     → CompletesAll old.agenda before after
     → BinStands c old seen told
     → Completes c seen before after
@@ -215,15 +215,15 @@ completes c seen told old before after ahead ends st =
 pub advances :
     (c : Contents) (seen : List Input) (told : List BinLine) (t : ℕ) (old new : Bin) (more : Bool) (before after : List BinLine)
     → Steps → Parts
-    → time_of old ≤ t → time_of new ≡ t → is_ahead new ≡ (is_ahead old || more)
+    → time_of old ≤ t → time_of new ≡ t → ahead_of new ≡ (ahead_of old || more)
     → (more ≡ true → ServesFirst true t old.agenda new.agenda before after)
     → (more ≡ false → ServesNothing true t old.agenda new.agenda before after)
     → BinStands c old seen told
     → ServesMore c seen told before after new
 advances c seen told t old new more before after step parts le time ahead first none st =
     by_cases more
-    (λ e. serves_more c seen told t old new before after step parts le time (ahead ∙ ap (λ (b : Bool). is_ahead old || b) e ∙ or_true (is_ahead old)) (first e) st)
-    (λ e. serves_none c seen told t old new before after le time (λ f. or_first (is_ahead old) more (sym ahead ∙ f)) (none e) st)
+    (λ e. serves_more c seen told t old new before after step parts le time (ahead ∙ ap (λ (b : Bool). ahead_of old || b) e ∙ or_true (ahead_of old)) (first e) st)
+    (λ e. serves_none c seen told t old new before after le time (λ f. or_first (ahead_of old) more (sym ahead ∙ f)) (none e) st)
   where
     or_true : (a : Bool) → (a || true) ≡ true
     or_true true = refl

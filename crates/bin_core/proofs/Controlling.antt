@@ -24,7 +24,8 @@ use Rattle.lane_core.specs.AllLanes.{LanesRest, SameLanes, ActOn, all_resting}
 use Rattle.lane_core.proofs.Placing.{lanes_apart, lanes_opened, lanes_fewer}
 use Rattle.bin_core.specs.declared.standings.Standing.{Standing}
 use Rattle.bin_core.specs.declared.stage.Stage.{Stage}
-use Rattle.bin_core.specs.Stages.{StageTells, TicksWhere, passes_by, standing, standing_by}
+use Rattle.bin_core.specs.Stages.{StageTells, TicksListed, standing, standing_by}
+use Rattle.bin_core.specs.Touching.{is_listed}
 use Rattle.bin_core.proofs.Staging.{standing_by_items}
 use Rattle.bin_core.proofs.Ticking.{opened_same, where_same, not_true}
 
@@ -77,13 +78,13 @@ some_lane [] k lt = absurd (omega (arith, lt))
 some_lane (l ∷ ls) k lt = l
 
 pub controls :
-    (c : Contents) (base : Base) (s one new : Stage) (i : Item) (touched : List Bool) (before mid after : List BinLine) (tl : Timeline)
+    (c : Contents) (base : Base) (s one new : Stage) (i : Item) (touched : List ℕ) (before mid after : List BinLine) (tl : Timeline)
     → one.front ≡ s.front → one.sync ≡ s.sync
     → ((session : ℕ) (x : Standing) → session < 8 → slice_get s.standings session ≡ Some x → slice_get one.standings session ≡ Some (standing_by i.action session x))
     → SameLanes s.lanes.items one.lanes.items
     → ActOn i s.lanes.items one.lanes.items before mid
-    → ((k : ℕ) (d : Lane) → k < length one.lanes.items → passes_by touched k ≡ is_for i.action (get_or one.lanes.items k d).session)
-    → TicksWhere i.time touched one new mid after
+    → ((k : ℕ) (d : Lane) → k < length one.lanes.items → is_listed touched k ≡ is_for i.action (get_or one.lanes.items k d).session)
+    → TicksListed i.time touched one new mid after
     → StageTells c base all_resting s before tl
     → StageTells c base all_resting new after (with_item c i tl)
 controls c base s one new i touched before mid after tl front_is sync_is standing_goes same acts passes ticks h =
@@ -105,7 +106,7 @@ controls c base s one new i touched before mid after tl front_is sync_is standin
     count = ap (λ (os : List Opening). length os) opens
 
     -- the lanes that it is for, by how they began
-    is_by : (k : ℕ) → k < n → passes_by touched k ≡ is_for i.action (o k).session
+    is_by : (k : ℕ) → k < n → is_listed touched k ≡ is_for i.action (o k).session
     is_by k lt =
         let long : length one.lanes.items ≡ n = same.count in
         let d : Lane = some_lane s.lanes.items k lt in
@@ -114,23 +115,23 @@ controls c base s one new i touched before mid after tl front_is sync_is standin
         ∙ ap (is_for i.action) ((same.each k d lt).session ∙ was)
 
     resting : ℕ → Bool
-    resting k = not (passes_by touched k) && nat_lt k n
+    resting k = not (is_listed touched k) && nat_lt k n
 
     apart : (k : ℕ) → resting k ≡ true → is_for i.action (o k).session ≡ false
     apart k r =
-        let within : nat_lt k n ≡ true = both_second (not (passes_by touched k)) (nat_lt k n) r in
+        let within : nat_lt k n ≡ true = both_second (not (is_listed touched k)) (nat_lt k n) r in
         let lt : k < n = grind (arith, common_steps) in
-        sym (is_by k lt) ∙ not_true (passes_by touched k) (both_first (not (passes_by touched k)) (nat_lt k n) r)
+        sym (is_by k lt) ∙ not_true (is_listed touched k) (both_first (not (is_listed touched k)) (nat_lt k n) r)
 
     began : LanesRest o base resting s.lanes.items before (Acted i ∷ tl)
     began =
         lanes_fewer o base all_resting resting s.lanes.items before (Acted i ∷ tl) (λ k lt r. refl)
         (lanes_apart o base all_resting s.lanes.items before before [] tl (Acted i ∷ tl) (λ k. refl) refl (sym (append-nil before)) (record { out_is = refl; lost_is = refl; refused_is = refl }) h.lanes)
 
-    lanes_there : LanesRest o base (λ k. not (passes_by touched k)) one.lanes.items mid there
+    lanes_there : LanesRest o base (λ k. not (is_listed touched k)) one.lanes.items mid there
     lanes_there =
-        lanes_fewer o base resting (λ k. not (passes_by touched k)) one.lanes.items mid there
-        (λ k lt r. both_of (not (passes_by touched k)) (nat_lt k n) r (let below : k < n = omega (arith, lt, same.count) in grind (arith, common_steps)))
+        lanes_fewer o base resting (λ k. not (is_listed touched k)) one.lanes.items mid there
+        (λ k lt r. both_of (not (is_listed touched k)) (nat_lt k n) r (let below : k < n = omega (arith, lt, same.count) in grind (arith, common_steps)))
         (acts o base resting (Acted i ∷ tl) apart began)
 
     kept_are : kept there ≡ kept tl
@@ -139,12 +140,12 @@ controls c base s one new i touched before mid after tl front_is sync_is standin
     items_are : items there ≡ i ∷ items tl
     items_are = acted_items o i.time n i.action (Acted i ∷ tl)
 
-    tells : StageTells c base (λ k. not (passes_by touched k)) one mid there
+    tells : StageTells c base (λ k. not (is_listed touched k)) one mid there
     tells =
         record {
           count = same.count ∙ h.count ∙ sym count;
           few = omega (arith, h.few, count);
-          lanes = lanes_opened o (opened c there) base (λ k. not (passes_by touched k)) one.lanes.items mid there (λ k lt. ap (λ (f : ℕ → Opening). f k) (sym (opened_same c tl there opens))) lanes_there;
+          lanes = lanes_opened o (opened c there) base (λ k. not (is_listed touched k)) one.lanes.items mid there (λ k lt. ap (λ (f : ℕ → Opening). f k) (sym (opened_same c tl there opens))) lanes_there;
           front = subst (λ (x : FrontState). FrontStandsFor x c (front there)) (sym front_is) (subst (λ (x : List FrontEvent). FrontStandsFor s.front c x) (sym (acted_front o i.time n i.action (Acted i ∷ tl))) h.front);
           sync = subst (λ (x : List Call). SyncStandsFor one.sync x) (sym kept_are) (subst (λ x. SyncStandsFor x (kept tl)) (sym sync_is) h.sync);
           lanes_kept = subst (λ (x : List Call). All (λ (call : Call). call.lane < lane_count there) x) (sym kept_are)
@@ -154,9 +155,9 @@ controls c base s one new i touched before mid after tl front_is sync_is standin
               ∙ ap (λ (x : List Item). Some (standing_by_items c session x)) (sym items_are);
         }
 
-    end_is : ticked_where c (opened c there) i.time (passes_by touched) (lane_count there) there ≡ with_item c i tl
+    end_is : ticked_where c (opened c there) i.time (is_listed touched) (lane_count there) there ≡ with_item c i tl
     end_is =
-        ap (λ (f : ℕ → Opening). ticked_where c f i.time (passes_by touched) (lane_count there) there) (opened_same c tl there opens)
-        ∙ ap (λ (m : ℕ). ticked_where c o i.time (passes_by touched) m there) count
-        ∙ where_same c o i.time (lane_count tl) (passes_by touched) (λ l. is_for i.action (o l).session) there (λ k lt. is_by k (omega (arith, lt, h.count)))
+        ap (λ (f : ℕ → Opening). ticked_where c f i.time (is_listed touched) (lane_count there) there) (opened_same c tl there opens)
+        ∙ ap (λ (m : ℕ). ticked_where c o i.time (is_listed touched) m there) count
+        ∙ where_same c o i.time (lane_count tl) (is_listed touched) (λ l. is_for i.action (o l).session) there (λ k lt. is_by k (omega (arith, lt, h.count)))
         ∙ ap (λ (m : ℕ). ticked_where c o i.time (λ l. is_for i.action (o l).session) (lane_count tl) (all_acted o i.time m i.action (Acted i ∷ tl))) h.count

@@ -11,13 +11,12 @@ use Rattle.replay_model.specs.declared.Due.TheVariants as due
 use Rattle.replay_model.specs.Events.{Timeline}
 use Rattle.replay_model.specs.Lanes.{lane_count, opened}
 use Rattle.replay_model.specs.Serving.{wake, first_wake, report_time, earlier, due_time, up_to, room, rooms}
-use Rattle.replay_model.proofs.Lanes.{by_cases}
-use Rattle.replay_model.proofs.Serving.{IsIn, first_in, rooms_same, room_falls, rooms_fall}
-use Rattle.replay_model.proofs.Waiting.{some_first}
+use Rattle.bin_core.proofs.Cases.{by_cases}
+use Rattle.bin_core.proofs.Falling.{some_first, rooms_same, room_falls, rooms_fall}
+use Rattle.bin_core.proofs.Waking.{IsIn, first_in, first_same}
 use Rattle.lane_core.specs.declared.lane.Lane.{Lane}
 use Rattle.lane_core.specs.Lanes.{Base}
 use Rattle.lane_core.specs.AllLanes.{wakes_in, wakes_left}
-use Rattle.lane_core.proofs.Serving.{first_is}
 use Rattle.bin_core.specs.declared.agenda.Agenda.{Agenda}
 use Rattle.bin_core.specs.Stages.{SameButOne, SameWakes}
 use Rattle.bin_core.specs.Intervals.{next_by}
@@ -35,7 +34,7 @@ pub due_by :
 due_by c base agenda told tl reports limit h =
     ap (λ (o : Option ℕ). up_to limit (earlier o (first_wake (wake (opened c tl) tl) (lane_count tl)))) (report_is reports)
     ∙ ap (λ (n : ℕ). up_to limit (earlier (report_by reports agenda.next_report) (first_wake (wake (opened c tl) tl) n))) (sym h.stage.count)
-    ∙ ap (λ (w : Option Wake). up_to limit (earlier (report_by reports agenda.next_report) w)) (sym (first_is (opened c tl) base agenda.stage.lanes.items told tl h.stage.lanes))
+    ∙ ap (λ (w : Option Wake). up_to limit (earlier (report_by reports agenda.next_report) w)) (sym (first_same (wakes_in agenda.stage.lanes.items) (wake (opened c tl) tl) (length agenda.stage.lanes.items) (λ k lt. h.stage.lanes.wakes_are k lt refl)))
   where
     report_is : (b : Bool) → report_time c b tl ≡ report_by b agenda.next_report
     report_is true = sym h.next

@@ -1,4 +1,8 @@
 pub mod Outcomes
+pub mod Cases
+pub mod Waking
+pub mod Falling
+pub mod Timelines
 pub mod Counting
 pub mod Marking
 pub mod Requesting

@@ -1,5 +1,5 @@
 -- What a stage owes, and what is left once it is done.
-use Rattle.std.proofs.Common.{ℕ, zero, suc, ◌≡◌, ◌≢◌, ◌+◌, ◌-◌, ◌<◌, ◌≤◌, ◌^◌, Bool, true, false, refl, sym, ap, subst, ◌∙◌, List, [], ◌∷◌, ◌++◌, length, Some, arith}
+use Rattle.std.proofs.Common.{ℕ, zero, suc, ◌≡◌, ◌≢◌, ◌+◌, ◌-◌, ◌<◌, ◌≤◌, ◌^◌, Bool, true, false, refl, sym, ap, subst, ◌∙◌, List, [], ◌∷◌, ◌++◌, length, None, Some, arith}
 use Rattle.std.specs.Prelude.{◌==◌, nat_lt, get_or, set, slice_get, slice_index_or, if◌then◌else◌}
 use Rattle.std.proofs.Props.{props}
 use Rattle.std.proofs.Math.Logic.{∥∥₁_elim}
@@ -28,11 +28,14 @@ use Rattle.replay_model.specs.Fitting.{IsCaptured, IsComing, AreComing, IsAction
 use Rattle.replay_sound.specs.Suited.{IsNext, AreSuited, OnlyTell, counts_none}
 use Rattle.lane_core.specs.declared.lane.Lane.{Lane}
 use Rattle.lane_core.specs.Lanes.{SameLane, PushedLane}
-use Rattle.lane_core.specs.AllLanes.{SameLanes, AddsLane}
+use Rattle.lane_core.specs.AllLanes.{SameLanes, AddsLane, wakes_in}
 use Rattle.bin_core.specs.declared.standings.Standing.{Standing}
 use Rattle.bin_core.specs.declared.stage.Stage.{Stage}
 use Rattle.bin_core.specs.Stages.{AreQuiet, Sends, requests_behind, standing_by}
+use Rattle.bin_core.specs.declared.wakes.Wakes.{Wakes}
+use Rattle.bin_core.specs.Waking.{kept_wake, wake_changed, AreWakes}
 use Rattle.bin_core.specs.Underway.{AreOpened, HasLatency, IsUnderway, Owes, StaysAtRest}
+use Rattle.bin_core.proofs.Waking.{added_wakes, same_wakes, changed_wakes}
 
 -- ---- steps one after the other
 
@@ -184,10 +187,10 @@ pub comes_at :
     (n m : ℕ) (e : FrontEvent) (xs : List Step) (s s' : Stage)
     → Suits → Sounds
     → IsComing e → ((older : List FrontEvent) → records older ≡ n → records (e ∷ older) ≡ m) → m ≤ 100000000
-    → s'.lanes.items ≡ s.lanes.items → s'.standings ≡ s.standings
+    → s'.lanes.items ≡ s.lanes.items → s'.wakes ≡ s.wakes → s'.standings ≡ s.standings
     → Comes e s.front s'.front xs
     → IsUnderway n [] s → IsUnderway m xs s'
-comes_at n m e xs s s' suits sounds coming counts most lanes_are standings_are front h =
+comes_at n m e xs s s' suits sounds coming counts most lanes_are wakes_are standings_are front h =
     record {
       script = h.script;
       events = e ∷ h.events;
@@ -205,6 +208,7 @@ comes_at n m e xs s s' suits sounds coming counts most lanes_are standings_are f
           (subst (λ (ys : List Step). AreSuited (with_steps [] before) ys) (sym is) (suits h.script h.events e h.reads (coming, h.coming) (omega (arith, count, most))));
       room = h.room;
       opened = subst (λ (ls : List Lane). AreOpened h.begun h.pushed ls) (sym lanes_are) h.opened;
+      wakes = subst (λ (w : Wakes). AreWakes w s'.lanes.items) (sym wakes_are) (subst (λ (ls : List Lane). AreWakes s.wakes ls) (sym lanes_are) h.wakes);
       latencies = λ session lt.
           let one : HasLatency s session = h.latencies session lt in
           record { standing = one.standing; is = ap (λ x. slice_get x session) standings_are ∙ one.is; small = one.small };
@@ -229,23 +233,23 @@ comes_at n m e xs s s' suits sounds coming counts most lanes_are standings_are f
 pub takes_owed :
     (n time : ℕ) (r : Record) (xs : List Step) (s s' : Stage)
     → Suits → Sounds → IsCaptured time r → n < 100000000
-    → s'.lanes.items ≡ s.lanes.items → s'.standings ≡ s.standings
+    → s'.lanes.items ≡ s.lanes.items → s'.wakes ≡ s.wakes → s'.standings ≡ s.standings
     → Comes (Came time r) s.front s'.front xs
     → Owes n [] s → Owes (n + 1) xs s'
-takes_owed n time r xs s s' suits sounds coming lt lanes_are standings_are front k =
+takes_owed n time r xs s s' suits sounds coming lt lanes_are wakes_are standings_are front k =
     ∥∥₁_elim k (hlevel props)
-    (λ h. ∣ comes_at n (n + 1) (Came time r) xs s s' suits sounds coming (λ older e. ap (λ (m : ℕ). m + 1) e) (omega (arith, lt)) lanes_are standings_are front h ∣₁)
+    (λ h. ∣ comes_at n (n + 1) (Came time r) xs s s' suits sounds coming (λ older e. ap (λ (m : ℕ). m + 1) e) (omega (arith, lt)) lanes_are wakes_are standings_are front h ∣₁)
 
 -- A report time comes.
 pub reports_owed :
     (n time : ℕ) (xs : List Step) (s s' : Stage)
     → Suits → Sounds
-    → s'.lanes.items ≡ s.lanes.items → s'.standings ≡ s.standings
+    → s'.lanes.items ≡ s.lanes.items → s'.wakes ≡ s.wakes → s'.standings ≡ s.standings
     → Comes (ReportsDue time) s.front s'.front xs
     → Owes n [] s → Owes n xs s'
-reports_owed n time xs s s' suits sounds lanes_are standings_are front k =
+reports_owed n time xs s s' suits sounds lanes_are wakes_are standings_are front k =
     ∥∥₁_elim k (hlevel props)
-    (λ h. ∣ comes_at n n (ReportsDue time) xs s s' suits sounds tt (λ older e. e) h.most lanes_are standings_are front h ∣₁)
+    (λ h. ∣ comes_at n n (ReportsDue time) xs s s' suits sounds tt (λ older e. e) h.most lanes_are wakes_are standings_are front h ∣₁)
 
 -- ---- one step
 
@@ -256,8 +260,9 @@ pub step_done :
     → pushed ≡ h.pushed + given_by x
     → length (with_step h.begun x) ≤ 64
     → AreOpened (with_step h.begun x) pushed s'.lanes.items
+    → AreWakes s'.wakes s'.lanes.items
     → IsUnderway n owed s'
-step_done n x owed s s' pushed h front_is standings_are more room opened =
+step_done n x owed s s' pushed h front_is standings_are more room opened wakes =
     record {
       script = h.script;
       events = h.events;
@@ -274,6 +279,7 @@ step_done n x owed s s' pushed h front_is standings_are more room opened =
       suited = h.suited.1;
       room = room;
       opened = opened;
+      wakes = wakes;
       latencies = λ session lt.
           let one : HasLatency s session = h.latencies session lt in
           record { standing = one.standing; is = ap (λ y. slice_get y session) standings_are ∙ one.is; small = one.small };
@@ -284,42 +290,56 @@ no_more n = omega arith
 
 pub told_done : (n : ℕ) (line : BinLine) (owed : List Step) (s : Stage) → Owes n (step.Tell line ∷ owed) s → Owes n owed s
 told_done n line owed s k =
-    ∥∥₁_elim k (hlevel props) (λ h. ∣ step_done n (step.Tell line) owed s s h.pushed h refl refl (no_more h.pushed) h.room h.opened ∣₁)
+    ∥∥₁_elim k (hlevel props) (λ h. ∣ step_done n (step.Tell line) owed s s h.pushed h refl refl (no_more h.pushed) h.room h.opened h.wakes ∣₁)
 
 pub begun_done :
     (n : ℕ) (o : Opening) (owed : List Step) (s s' : Stage)
-    → s'.front ≡ s.front → s'.standings ≡ s.standings
+    → s'.front ≡ s.front → s'.wakes ≡ s.wakes → s'.standings ≡ s.standings
     → AddsLane o s.lanes.items s'.lanes.items
     → Owes n (step.Open o ∷ owed) s → Owes n owed s'
-begun_done n o owed s s' front_is standings_are adds k =
+begun_done n o owed s s' front_is wakes_are standings_are adds k =
     ∥∥₁_elim k (hlevel props)
     (λ h. let next : IsNext h.begun o = h.suited.0 in
     ∣ step_done n (step.Open o) owed s s' h.pushed h front_is standings_are (no_more h.pushed) (omega (arith, length_push h.begun o, next.room))
-    (more_opened h.begun o h.pushed s.lanes.items s'.lanes.items adds h.opened) ∣₁)
+    (more_opened h.begun o h.pushed s.lanes.items s'.lanes.items adds h.opened)
+    (subst (λ (w : Wakes). AreWakes w s'.lanes.items) (sym wakes_are) (added_wakes s.wakes o s.lanes.items s'.lanes.items adds h.wakes)) ∣₁)
+
+-- a lane in the place of another one, with the same wake
+lane_wakes :
+    (l : ℕ) (was b : Lane) (s s' : Stage)
+    → l < length s.lanes.items → was ≡ get_or s.lanes.items l was
+    → s'.lanes.items ≡ set s.lanes.items l b → s'.wakes ≡ s.wakes
+    → b.wake ≡ was.wake
+    → AreWakes s.wakes s.lanes.items → AreWakes s'.wakes s'.lanes.items
+lane_wakes l was b s s' lt is lanes_are wakes_are wake h =
+    subst (λ (w : Wakes). AreWakes w s'.lanes.items) (sym wakes_are)
+    (subst (λ (ls : List Lane). AreWakes s.wakes ls) (sym lanes_are) (same_wakes s.wakes s.lanes.items l was b lt is wake h))
 
 pub pushed_done :
     (n l : ℕ) (a : Arrival) (was b : Lane) (owed : List Step) (s s' : Stage)
     → l < length s.lanes.items → was ≡ get_or s.lanes.items l was
-    → s'.lanes.items ≡ set s.lanes.items l b → s'.front ≡ s.front → s'.standings ≡ s.standings
-    → PushedLane was b
+    → s'.lanes.items ≡ set s.lanes.items l b → s'.front ≡ s.front → s'.wakes ≡ s.wakes → s'.standings ≡ s.standings
+    → PushedLane was b → b.wake ≡ was.wake
     → Owes n (step.Push l a ∷ owed) s → Owes n owed s'
-pushed_done n l a was b owed s s' lt is lanes_are front_is standings_are same k =
+pushed_done n l a was b owed s s' lt is lanes_are front_is wakes_are standings_are same wake k =
     ∥∥₁_elim k (hlevel props)
     (λ h. ∣ step_done n (step.Push l a) owed s s' (h.pushed + 1) h front_is standings_are refl h.room
     (subst (λ (ls : List Lane). AreOpened h.begun (h.pushed + 1) ls) (sym lanes_are)
-    (one_opened h.begun h.pushed 1 l was b s.lanes.items lt is same.settings (omega (arith, same.pushes)) h.opened)) ∣₁)
+    (one_opened h.begun h.pushed 1 l was b s.lanes.items lt is same.settings (omega (arith, same.pushes)) h.opened))
+    (lane_wakes l was b s s' lt is lanes_are wakes_are wake h.wakes) ∣₁)
 
 pub synced_done :
     (n l : ℕ) (r : SenderReport) (was b : Lane) (owed : List Step) (s s' : Stage)
     → l < length s.lanes.items → was ≡ get_or s.lanes.items l was
-    → s'.lanes.items ≡ set s.lanes.items l b → s'.front ≡ s.front → s'.standings ≡ s.standings
-    → SameLane was b
+    → s'.lanes.items ≡ set s.lanes.items l b → s'.front ≡ s.front → s'.wakes ≡ s.wakes → s'.standings ≡ s.standings
+    → SameLane was b → b.wake ≡ was.wake
     → Owes n (step.Sync l r ∷ owed) s → Owes n owed s'
-synced_done n l r was b owed s s' lt is lanes_are front_is standings_are same k =
+synced_done n l r was b owed s s' lt is lanes_are front_is wakes_are standings_are same wake k =
     ∥∥₁_elim k (hlevel props)
     (λ h. ∣ step_done n (step.Sync l r) owed s s' (h.pushed + 0) h front_is standings_are refl h.room
     (subst (λ (ls : List Lane). AreOpened h.begun (h.pushed + 0) ls) (sym lanes_are)
-    (one_opened h.begun h.pushed 0 l was b s.lanes.items lt is same.settings (omega (arith, same.pushes)) h.opened)) ∣₁)
+    (one_opened h.begun h.pushed 0 l was b s.lanes.items lt is same.settings (omega (arith, same.pushes)) h.opened))
+    (lane_wakes l was b s s' lt is lanes_are wakes_are wake h.wakes) ∣₁)
 
 -- ---- what a step needs
 
@@ -468,9 +488,10 @@ stays_at :
     → AreComing events → records events ≡ records h.events → all_steps h.script events ≡ all_steps h.script h.events
     → FrontStandsFor s'.front h.script events
     → AreOpened h.begun h.pushed s'.lanes.items
+    → AreWakes s'.wakes s'.lanes.items
     → ((session : ℕ) → session < 8 → HasLatency s' session)
     → IsUnderway n [] s'
-stays_at n s s' events h coming same steps_are front opened latencies =
+stays_at n s s' events h coming same steps_are front opened wakes latencies =
     record {
       script = h.script;
       events = events;
@@ -487,6 +508,7 @@ stays_at n s s' events h coming same steps_are front opened latencies =
       suited = tt;
       room = h.room;
       opened = opened;
+      wakes = wakes;
       latencies = latencies;
     }
 
@@ -510,9 +532,10 @@ pub ticks_rest :
     → n < length s.lanes.items → was ≡ get_or s.lanes.items n was
     → s'.lanes.items ≡ set s.lanes.items n b → s'.standings ≡ s.standings
     → SameLane was b
+    → ((j : ℕ) → kept_wake s'.wakes j ≡ wake_changed (kept_wake s.wakes) n b.wake j)
     → Sends t session ssrc numbers s.front s'.front before after
     → StaysAtRest s s'
-ticks_rest s s' n t session ssrc was b numbers before after lt is lanes_are standings_are same sends m k =
+ticks_rest s s' n t session ssrc was b numbers before after lt is lanes_are standings_are same changes sends m k =
     ∥∥₁_elim k (hlevel props)
     (λ h. ∣ stays_at m s s' (requests_behind session ssrc numbers h.events) h
     (requests_coming session ssrc numbers h.events h.coming)
@@ -522,6 +545,7 @@ ticks_rest s s' n t session ssrc was b numbers before after lt is lanes_are stan
     (subst (λ (ls : List Lane). AreOpened h.begun h.pushed ls) (sym lanes_are)
     (subst (λ (p : ℕ). AreOpened h.begun p (set s.lanes.items n b)) (sym (no_more h.pushed))
     (one_opened h.begun h.pushed 0 n was b s.lanes.items lt is same.settings (omega (arith, same.pushes)) h.opened)))
+    (subst (λ (ls : List Lane). AreWakes s'.wakes ls) (sym lanes_are) (changed_wakes s.wakes s'.wakes s.lanes.items n b lt changes h.wakes))
     (λ session lt. let one : HasLatency s session = h.latencies session lt in
     record { standing = one.standing; is = ap (λ y. slice_get y session) standings_are ∙ one.is; small = one.small }) ∣₁)
 
@@ -535,15 +559,17 @@ latency_small session (action.FlushStop of) was ok le = le
 -- An item comes.
 pub controls_rest :
     (s s' : Stage) (a : Action)
-    → IsAction a → s'.front ≡ s.front
+    → IsAction a → s'.front ≡ s.front → s'.wakes ≡ s.wakes
     → SameLanes s.lanes.items s'.lanes.items
+    → ((j : ℕ) → wakes_in s'.lanes.items j ≡ wakes_in s.lanes.items j)
     → ((session : ℕ) (x : Standing) → session < 8 → slice_get s.standings session ≡ Some x → slice_get s'.standings session ≡ Some (standing_by a session x))
     → StaysAtRest s s'
-controls_rest s s' a ok front_is same after m k =
+controls_rest s s' a ok front_is wakes_are same wakes after m k =
     ∥∥₁_elim k (hlevel props)
     (λ h. ∣ stays_at m s s' h.events h h.coming refl refl
     (subst (λ (f : FrontState). FrontStandsFor f h.script h.events) (sym front_is) h.front)
     (same_opened h.begun h.pushed s.lanes.items s'.lanes.items same h.opened)
+    (λ j. ap (λ (w : Wakes). kept_wake w j) wakes_are ∙ h.wakes j ∙ sym (wakes j))
     (λ session lt. let one : HasLatency s session = h.latencies session lt in
     record {
       standing = standing_by a session one.standing;
@@ -562,9 +588,10 @@ stays_then a b c f g n k = g n (f n k)
 pub fresh_rests :
     (c : Contents) (s : Stage)
     → IsScript c → s.lanes.items ≡ [] → FrontStandsFor s.front c []
+    → ((k : ℕ) → kept_wake s.wakes k ≡ None)
     → ((session : ℕ) → session < 8 → HasLatency s session)
     → Owes 0 [] s
-fresh_rests c s reads none front latencies =
+fresh_rests c s reads none front wakes latencies =
     ∣ record {
       script = c;
       events = [];
@@ -582,6 +609,7 @@ fresh_rests c s reads none front latencies =
       room = omega arith;
       opened = subst (λ (ls : List Lane). AreOpened [] 0 ls) (sym none)
           (record { count = refl; settings = λ k o d e. absurd cc; pushes = λ k d lt. absurd (omega (arith, lt)) });
+      wakes = subst (λ (ls : List Lane). AreWakes s.wakes ls) (sym none) wakes;
       latencies = latencies;
     } ∣₁
 
@@ -589,6 +617,9 @@ fresh_rests c s reads none front latencies =
 
 pub rest_taken : (n : ℕ) (owed : List Step) (s : Stage) → Owes n owed s → s.front.taken ≡ n
 rest_taken n owed s k = ∥∥₁_elim k (hlevel props) (λ h. h.front.taken ∙ h.count)
+
+pub rest_wakes : (n : ℕ) (owed : List Step) (s : Stage) (k : ℕ) → Owes n owed s → kept_wake s.wakes k ≡ wakes_in s.lanes.items k
+rest_wakes n owed s j k = ∥∥₁_elim k (hlevel props) (λ h. h.wakes j)
 
 pub few_lanes : (n : ℕ) (owed : List Step) (s : Stage) → Owes n owed s → length s.lanes.items ≤ 64
 few_lanes n owed s k = ∥∥₁_elim k (hlevel props) (λ h. omega (arith, h.room, h.opened.count))

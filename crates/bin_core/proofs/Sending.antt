@@ -15,7 +15,7 @@ use Rattle.front_model.specs.Reports.{nack_bytes}
 use Rattle.replay_model.specs.Events.{Timeline, Fronted, Told, At, front, kept, lane}
 use Rattle.replay_model.specs.Lines.{lines}
 use Rattle.replay_model.specs.Turning.{turned, turns_up_to, all_turns, request, all_requested, sent, asked, settled}
-use Rattle.replay_model.proofs.Lanes.{by_cases}
+use Rattle.bin_core.proofs.Cases.{by_cases}
 use Rattle.replay_model.proofs.Turning.{is_rest, turns_quiet, turns_more}
 use Rattle.replay_model.proofs.Serving.{turns_front}
 use Rattle.lane_core.proofs.Tallying.{Sums}

@@ -20,11 +20,12 @@ use Rattle.replay_model.specs.Taking.{fronted, taken, is_touched}
 use Rattle.replay_model.specs.Serving.{next_report, last_report, first_due, serve_one, serve}
 use Rattle.replay_model.specs.Ending.{closed, all_ended}
 use Rattle.replay_model.specs.Log.{with_item, with_done}
-use Rattle.replay_model.proofs.Lanes.{by_cases}
+use Rattle.bin_core.proofs.Cases.{by_cases}
+use Rattle.bin_core.proofs.Timelines.{where_yes, where_not}
 use Rattle.replay_model.proofs.Turning.{ticked_latest, settled_items}
 use Rattle.replay_model.proofs.Serving.{ticked_reports}
 use Rattle.replay_model.proofs.Reporting.{reported_front}
-use Rattle.replay_model.proofs.Keeping.{one_openings, serve_openings, where_yes, where_not, where_last, all_stepped_front, acted_front}
+use Rattle.replay_model.proofs.Keeping.{one_openings, serve_openings, where_last, all_stepped_front, acted_front}
 use Rattle.replay_model.proofs.Extending.{Adds, AreAt, then_more, all_stepped_extend, ticked_where_extend, acted_extend}
 use Rattle.lane_core.specs.Lanes.{Base, Adds as AddsLines}
 use Rattle.lane_core.specs.AllLanes.{all_resting, resting_and}

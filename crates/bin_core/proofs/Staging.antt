@@ -21,17 +21,19 @@ use Rattle.replay_model.specs.Lanes.{lane_count, opened, latency_of, is_flushing
 use Rattle.replay_model.specs.Turning.{all_turns, asked, settled}
 use Rattle.replay_model.specs.Taking.{touches, flushed_at_begin, begun, fronted, all_stepped}
 use Rattle.front_model.specs.Steps.{steps}
-use Rattle.replay_model.proofs.Lanes.{by_cases}
 use Rattle.replay_model.proofs.Turning.{settled_lane, settled_items}
-use Rattle.replay_model.proofs.Keeping.{settled_openings, same_opened}
+use Rattle.replay_model.proofs.Keeping.{settled_openings}
+use Rattle.bin_core.proofs.Timelines.{same_opened}
 use Rattle.lane_core.specs.declared.lane.Lane.{Lane}
 use Rattle.lane_core.specs.Lanes.{GoesOn as LaneGoesOn, pushed_at, Base, Around, LaneTells, LaneAsks}
 use Rattle.lane_core.specs.AllLanes.{LanesRest, BeginsAs, AddsLane, Open, all_resting, resting_and, resting_but, wakes_in}
-use Rattle.lane_core.proofs.Placing.{around, one_tells, wakes_other, lanes_go_on, lanes_rest, lanes_apart, lanes_opened, lanes_fewer}
+use Rattle.lane_core.proofs.Placing.{around, one_tells, lanes_go_on, lanes_rest, lanes_apart, lanes_opened, lanes_fewer}
 use Rattle.bin_core.specs.declared.standings.Standing.{Standing}
 use Rattle.bin_core.specs.declared.stage.Stage.{Stage}
 use Rattle.replay_sound.specs.Suited.{counts_none}
 use Rattle.bin_core.specs.Stages.{standing, nack_lines, requests_behind, Sends, StageTells, Begins, AreApart, AreTold, TellsAll, Does, SameButOne}
+use Rattle.bin_core.proofs.Cases.{by_cases}
+use Rattle.bin_core.proofs.Waking.{wakes_other}
 use Rattle.bin_core.proofs.Counting.{line_sums}
 use Rattle.bin_core.proofs.Sending.{turns_of, nack_sums, series_front, series_kept, series_lines}
 

@@ -34,7 +34,7 @@ use Rattle.lane_core.specs.declared.lane.Lane.{Lane}
 use Rattle.lane_core.specs.Lanes.{Base, LaneHolds, LaneTells, Replies, GoesOn, reported_at, replied_at}
 use Rattle.lane_core.specs.AllLanes.{LanesRest}
 use Rattle.lane_core.proofs.Placing.{around, one_tells, lanes_apart, lanes_opened}
-use Rattle.replay_model.proofs.Keeping.{same_opened}
+use Rattle.bin_core.proofs.Timelines.{same_opened}
 use Rattle.lane_core.proofs.Tallying.{Sums}
 use Rattle.bin_core.specs.declared.stage.Stage.{Stage}
 use Rattle.bin_core.specs.Stages.{StageTells, AreApart, Keeps}
@@ -219,10 +219,6 @@ synced_named c base resting s s' t n r was reply info name mid after tl e some l
     (sym (h.is ∙ ap (λ (x : Option SyncInfo). synced_by c t n r x tl) e ∙ by_name c t n r was info tl (Some name) h.session_is h.ssrc_is some))
     (keeps c base resting s s' t n name info mid after (replied_at t r.ntp_ns r.rtp n (Some info) tl) lt lanes_are front_is standings_are keep
     (subst (λ (x : Option SyncInfo). StageTells c base resting s mid (replied_at t r.ntp_ns r.rtp n x tl)) e h.tells))
-
-pub is_none : {A : Type 0} (o : Option A) → ((x : A) → o ≡ Some x → ⊥) → o ≡ None
-is_none None never = refl
-is_none (Some x) never = absurd (never x refl)
 
 pub long : (ls : List Lane) (n : ℕ) (b : Lane) → n < length ls → n < length (set ls n b)
 long ls n b lt = omega (arith, lt, length-set ls n b)

@@ -1,5 +1,5 @@
 -- Lanes that pass tick, in order; the steps of a record.
-use Rattle.std.proofs.Common.{ℕ, zero, suc, ◌≡◌, ◌≢◌, ◌+◌, ◌<◌, ◌≤◌, Bool, true, false, not, refl, sym, ap, subst, ◌∙◌, List, [], ◌∷◌, ◌++◌, length, arith}
+use Rattle.std.proofs.Common.{ℕ, zero, suc, ◌≡◌, ◌≢◌, ◌+◌, ◌-◌, ◌<◌, ◌≤◌, Bool, true, false, not, refl, sym, ap, subst, ◌∙◌, List, [], ◌∷◌, ◌++◌, length, arith}
 use Rattle.std.specs.Prelude.{◌==◌, ◌||◌, nat_lt, nat_le, slice_get, if◌then◌else◌}
 use Rattle.std.specs.List.{list_any}
 use Rattle.std.proofs.lemmas.Grind.{common_steps}
@@ -15,12 +15,14 @@ use Rattle.replay_model.specs.Lanes.{lane_count, opening_or, opened}
 use Rattle.replay_model.specs.Turning.{ticked}
 use Rattle.replay_model.specs.Acting.{ticked_where}
 use Rattle.replay_model.specs.Taking.{touches, is_touched, stepped, all_stepped, taken}
-use Rattle.replay_model.proofs.Lanes.{by_cases}
-use Rattle.replay_model.proofs.Keeping.{where_yes, where_not, where_openings, all_stepped_grown, grown_count}
+use Rattle.replay_model.proofs.Keeping.{where_openings, all_stepped_grown, grown_count}
+use Rattle.bin_core.proofs.Timelines.{where_yes, where_not}
 use Rattle.lane_core.specs.Lanes.{Base}
 use Rattle.lane_core.specs.AllLanes.{all_resting, resting_and}
 use Rattle.bin_core.specs.declared.stage.Stage.{Stage}
-use Rattle.bin_core.specs.Stages.{StageTells, AreApart, AreAllApart, Does, DoesAll, Ticks, TicksWhere, passes_by}
+use Rattle.bin_core.specs.Stages.{StageTells, AreApart, AreAllApart, Does, DoesAll, Ticks, TicksListed}
+use Rattle.bin_core.specs.Touching.{is_listed, IsNextListed}
+use Rattle.bin_core.proofs.Cases.{by_cases, any_then, first_not, second_not}
 use Rattle.bin_core.proofs.Staging.{fronted_tells, tells_fewer}
 
 -- how lanes began is one function where the openings are the same
@@ -32,20 +34,20 @@ abbrev pub resting_below : (ℕ → Bool) → ℕ → ℕ → Bool
 resting_below passes i k = not (passes k) || nat_lt k i
 
 -- on the way
-abbrev pub TicksBelow : ℕ → List Bool → ℕ → Stage → Stage → List BinLine → List BinLine → Type 0
+abbrev pub TicksBelow : ℕ → List ℕ → ℕ → Stage → Stage → List BinLine → List BinLine → Type 0
 TicksBelow t touched i old new before after =
     (c : Contents) (base : Base) (tl : Timeline)
-    → StageTells c base (λ k. not (passes_by touched k)) old before tl
-    → StageTells c base (resting_below (passes_by touched) i) new after (ticked_where c (opened c tl) t (passes_by touched) i tl)
+    → StageTells c base (λ k. not (is_listed touched k)) old before tl
+    → StageTells c base (resting_below (is_listed touched) i) new after (ticked_where c (opened c tl) t (is_listed touched) i tl)
 
 none_below : (a : Bool) (k : ℕ) → (a || nat_lt k 0) ≡ true → a ≡ true
 none_below true k e = refl
 none_below false k e = absurd (let lt : k < 0 = grind (arith, common_steps) in omega (arith, lt))
 
-pub ticks_none : (t : ℕ) (touched : List Bool) (s : Stage) (before : List BinLine) → TicksBelow t touched 0 s s before before
+pub ticks_none : (t : ℕ) (touched : List ℕ) (s : Stage) (before : List BinLine) → TicksBelow t touched 0 s s before before
 ticks_none t touched s before c base tl h =
-    tells_fewer c base (λ k. not (passes_by touched k)) (resting_below (passes_by touched) 0) s before tl
-    (λ k lt e. none_below (not (passes_by touched k)) k e) h
+    tells_fewer c base (λ k. not (is_listed touched k)) (resting_below (is_listed touched) 0) s before tl
+    (λ k lt e. none_below (not (is_listed touched k)) k e) h
 
 below_next : (passes : ℕ → Bool) (i k : ℕ) → k ≢ i → resting_below passes (suc i) k ≡ true → resting_below passes i k ≡ true
 below_next passes i k ne e = by_first (not (passes k)) e
@@ -62,13 +64,13 @@ and_other resting n k other = by_both (k == n) refl
     by_both false e = other (let ne : k ≢ n = grind (arith, common_steps) in ne)
 
 pub ticks_yes :
-    (t i j : ℕ) (touched : List Bool) (s mid new : Stage) (before between after : List BinLine)
-    → j ≡ i + 1 → passes_by touched i ≡ true
+    (t i j : ℕ) (touched : List ℕ) (s mid new : Stage) (before between after : List BinLine)
+    → j ≡ i + 1 → is_listed touched i ≡ true
     → Ticks t i mid new between after
     → TicksBelow t touched i s mid before between
     → TicksBelow t touched j s new before after
 ticks_yes t i j touched s mid new before between after next hit tick h c base tl tells =
-    let passes : ℕ → Bool = passes_by touched in
+    let passes : ℕ → Bool = is_listed touched in
     let now : Timeline = ticked_where c (opened c tl) t passes i tl in
     let same : opened c now ≡ opened c tl = opened_same c tl now (where_openings c (opened c tl) t passes i tl) in
     let one : StageTells c base (resting_and i (resting_below passes i)) new after (ticked c (opened c now) t i now) = tick c base (resting_below passes i) now (h c base tl tells) in
@@ -81,12 +83,12 @@ ticks_yes t i j touched s mid new before between after next hit tick h c base tl
     (λ k lt e. and_other (resting_below passes i) i k (λ ne. below_next passes i k ne e)) there)
 
 pub ticks_not :
-    (t i j : ℕ) (touched : List Bool) (s mid : Stage) (before between : List BinLine)
-    → j ≡ i + 1 → passes_by touched i ≡ false
+    (t i j : ℕ) (touched : List ℕ) (s mid : Stage) (before between : List BinLine)
+    → j ≡ i + 1 → is_listed touched i ≡ false
     → TicksBelow t touched i s mid before between
     → TicksBelow t touched j s mid before between
 ticks_not t i j touched s mid before between next miss h c base tl tells =
-    let passes : ℕ → Bool = passes_by touched in
+    let passes : ℕ → Bool = is_listed touched in
     let num : suc i ≡ j = omega (arith, next) in
     subst (λ (n : ℕ). StageTells c base (resting_below passes n) mid between (ticked_where c (opened c tl) t passes n tl)) num
     (subst (λ (x : Timeline). StageTells c base (resting_below passes (suc i)) mid between x) (sym (where_not c (opened c tl) t passes i tl miss))
@@ -98,13 +100,35 @@ ticks_not t i j touched s mid before between next miss h c base tl tells =
     (λ q. let ne : k ≢ i = grind (arith, common_steps) in below_next passes i k ne e))
     (h c base tl tells)))
 
+-- none of these lanes is listed
+pub ticks_gap :
+    (d t i j : ℕ) (touched : List ℕ) (s mid : Stage) (before between : List BinLine)
+    → j ≡ i + d → ((k : ℕ) → i ≤ k → k < j → is_listed touched k ≡ false)
+    → TicksBelow t touched i s mid before between
+    → TicksBelow t touched j s mid before between
+ticks_gap zero t i j touched s mid before between next none h =
+    let same : i ≡ j = omega (arith, next) in
+    subst (λ (n : ℕ). TicksBelow t touched n s mid before between) same h
+ticks_gap (suc d) t i j touched s mid before between next none h =
+    ticks_gap d t (i + 1) j touched s mid before between (omega (arith, next)) (λ k le lt. none k (omega (arith, le)) lt)
+    (ticks_not t i (i + 1) touched s mid before between refl (none i (omega arith) (omega (arith, next))) h)
+
+-- the next listed lane is found
+pub ticks_to :
+    (t i j end : ℕ) (touched : List ℕ) (s mid : Stage) (before between : List BinLine)
+    → IsNextListed touched i end j
+    → TicksBelow t touched i s mid before between
+    → TicksBelow t touched j s mid before between
+ticks_to t i j end touched s mid before between found h =
+    ticks_gap (j - i) t i j touched s mid before between (omega (arith, found.onward)) found.between h
+
 pub ticks_all :
-    (t i : ℕ) (touched : List Bool) (s new : Stage) (before after : List BinLine)
+    (t i : ℕ) (touched : List ℕ) (s new : Stage) (before after : List BinLine)
     → i ≡ length s.lanes.items → length new.lanes.items ≡ length s.lanes.items
     → TicksBelow t touched i s new before after
-    → TicksWhere t touched s new before after
+    → TicksListed t touched s new before after
 ticks_all t i touched s new before after at same h c base tl tells =
-    let passes : ℕ → Bool = passes_by touched in
+    let passes : ℕ → Bool = is_listed touched in
     let num : i ≡ lane_count tl = at ∙ tells.count in
     subst (λ (n : ℕ). StageTells c base all_resting new after (ticked_where c (opened c tl) t passes n tl)) num
     (tells_fewer c base (resting_below passes i) all_resting new after (ticked_where c (opened c tl) t passes i tl)
@@ -128,26 +152,6 @@ stepped_then c t (y ∷ xs) x tl = stepped_then c t xs x (stepped c t y tl)
 
 pub apart_more : (resting : ℕ → Bool) (n m : ℕ) (x : Step) → n ≤ m → AreApart resting n x → AreApart resting m x
 apart_more resting n m x le h k r = ((h k r).0, omega (arith, (h k r).1, le))
-
-any_then : (f : Step → Bool) (xs : List Step) (x : Step) → list_any f (xs ++ x ∷ []) ≡ (list_any f xs || f x)
-any_then f [] x = by_either (f x)
-  where
-    by_either : (b : Bool) → (b || false) ≡ (false || b)
-    by_either true = refl
-    by_either false = refl
-any_then f (y ∷ xs) x = ap (λ (b : Bool). f y || b) (any_then f xs x) ∙ by_either (f y) (list_any f xs) (f x)
-  where
-    by_either : (a b d : Bool) → (a || (b || d)) ≡ ((a || b) || d)
-    by_either true b d = refl
-    by_either false b d = refl
-
-first_not : (a b : Bool) → (a || b) ≡ false → a ≡ false
-first_not true b e = e
-first_not false b e = refl
-
-second_not : (a b : Bool) → (a || b) ≡ false → b ≡ false
-second_not true b e = cc
-second_not false b e = e
 
 pub does_more :
     (t : ℕ) (xs more : List Step) (x : Step) (s mid new : Stage) (before between after : List BinLine)
@@ -186,20 +190,20 @@ not_true false e = refl
 
 -- Something comes to the front, its steps are done, and the lanes that they touched tick.
 pub takes :
-    (c : Contents) (base : Base) (s one two new : Stage) (t : ℕ) (e : FrontEvent) (xs : List Step) (touched : List Bool) (before mid after : List BinLine) (tl : Timeline)
+    (c : Contents) (base : Base) (s one two new : Stage) (t : ℕ) (e : FrontEvent) (xs : List Step) (touched : List ℕ) (before mid after : List BinLine) (tl : Timeline)
     → one.lanes.items ≡ s.lanes.items → one.sync ≡ s.sync → one.standings ≡ s.standings
     → FrontStandsFor one.front c (e ∷ front tl)
     → xs ≡ steps c (front tl) e
-    → ((k : ℕ) → passes_by touched k ≡ is_touched (length s.lanes.items) xs k)
+    → ((k : ℕ) → k < length two.lanes.items → is_listed touched k ≡ is_touched (length s.lanes.items) xs k)
     → DoesAll t xs one two before mid
-    → TicksWhere t touched two new mid after
+    → TicksListed t touched two new mid after
     → StageTells c base all_resting s before tl
     → StageTells c base all_resting new after (taken c t e tl)
 takes c base s one two new t e xs touched before mid after tl lanes_are sync_is standings_are fronts is passes does ticks h =
-    subst (λ (x : Timeline). StageTells c base all_resting new after x) same (ticks c base there done)
+    subst (λ (x : Timeline). StageTells c base all_resting new after x) same (ticks c base there listed)
   where
     resting : ℕ → Bool
-    resting = λ k. not (passes_by touched k)
+    resting = λ k. not (is_touched (length s.lanes.items) xs k)
 
     started : StageTells c base resting one before (Fronted t e ∷ tl)
     started =
@@ -211,7 +215,7 @@ takes c base s one two new t e xs touched before mid after tl lanes_are sync_is 
 
     apart : AreAllApart resting (length one.lanes.items) xs
     apart k r =
-        let out : is_touched (length s.lanes.items) xs k ≡ false = sym (passes k) ∙ not_true (passes_by touched k) r in
+        let out : is_touched (length s.lanes.items) xs k ≡ false = not_true (is_touched (length s.lanes.items) xs k) r in
         let below : nat_le (length s.lanes.items) k ≡ false = first_not (nat_le (length s.lanes.items) k) (list_any (touches k) xs) out in
         let lt : k < length s.lanes.items = grind (arith, common_steps) in
         (second_not (nat_le (length s.lanes.items) k) (list_any (touches k) xs) out, subst (λ (ls : ℕ). k < ls) (sym (ap (λ x. length x) lanes_are)) lt)
@@ -219,10 +223,13 @@ takes c base s one two new t e xs touched before mid after tl lanes_are sync_is 
     done : StageTells c base resting two mid there
     done = does c base resting (Fronted t e ∷ tl) apart started
 
-    touched_is : (k : ℕ) → passes_by touched k ≡ is_touched (lane_count tl) xs k
-    touched_is k = passes k ∙ ap (λ (n : ℕ). is_touched n xs k) h.count
+    listed : StageTells c base (λ k. not (is_listed touched k)) two mid there
+    listed = tells_fewer c base resting (λ k. not (is_listed touched k)) two mid there (λ k lt r. ap not (sym (passes k lt)) ∙ r) done
 
-    same : ticked_where c (opened c there) t (passes_by touched) (lane_count there) there ≡ taken c t e tl
+    touched_is : (k : ℕ) → k < lane_count there → is_listed touched k ≡ is_touched (lane_count tl) xs k
+    touched_is k lt = passes k (omega (arith, lt, done.count)) ∙ ap (λ (n : ℕ). is_touched n xs k) h.count
+
+    same : ticked_where c (opened c there) t (is_listed touched) (lane_count there) there ≡ taken c t e tl
     same =
-        where_same c (opened c there) t (lane_count there) (passes_by touched) (is_touched (lane_count tl) xs) there (λ k lt. touched_is k)
+        where_same c (opened c there) t (lane_count there) (is_listed touched) (is_touched (lane_count tl) xs) there touched_is
         ∙ ap (λ (ys : List Step). ticked_where c (opened c (all_stepped c t ys (Fronted t e ∷ tl))) t (is_touched (lane_count tl) ys) (lane_count (all_stepped c t ys (Fronted t e ∷ tl))) (all_stepped c t ys (Fronted t e ∷ tl))) is

@@ -11,17 +11,18 @@ use Rattle.replay_model.specs.Lines.{lines}
 use Rattle.replay_model.specs.Log.{served, timeline, log_part, log}
 use Rattle.bin_core.specs.declared.bin.Bin.{Bin}
 use Rattle.bin_core.specs.Agendas.{Holds}
-use Rattle.bin_core.specs.Words.{time_of, is_ahead}
+use Rattle.bin_core.specs.Words.{time_of, ahead_of}
 
 -- A bin after these inputs, the newest of which is the first, and after these lines of what was
 -- served since. What is due later is the same as it would be behind the inputs alone.
-pub record StandsFor (c : Contents) (bin : Bin) (xs : List Input) (told : List BinLine) : Type 0 where
+pub record StandsFor (c : Contents) (bin : Bin) (xs : List Input) (told : List BinLine)
+    : Type 0 where
   pub now : Timeline
   pub holds : (before : List BinLine)
       → Holds c (record { before = before; log = lines now }) bin.agenda before now
   pub told_is : lines now ≡ lines (timeline c xs) ++ told
   pub same : (t : ℕ) → time_of bin ≤ t → served c t now ≡ served c t (timeline c xs)
-  pub level : is_ahead bin ≡ false → now ≡ timeline c xs
+  pub level : ahead_of bin ≡ false → now ≡ timeline c xs
 
 -- A bin of this script took these inputs, the first of which is the first, and served something of
 -- what is due since. Of that it told these lines.
@@ -33,8 +34,8 @@ abbrev pub timed : ℕ → ℕ → PcapRecord → Timed
 timed time link r = record { time = time; captured = record_view link r }
 
 -- something was served: these lines were added
-pub record ServesMore (c : Contents) (seen : List Input) (told before after : List BinLine) (bin : Bin)
-    : Type 0 where
+pub record ServesMore (c : Contents) (seen : List Input) (told before after : List BinLine)
+    (bin : Bin) : Type 0 where
   pub more : List BinLine
   pub added : after ≡ before ++ more
   pub stands : BinStands c bin seen (told ++ more)

@@ -1,3 +1,5 @@
+pub mod Waking
+pub mod Touching
 pub mod Stages
 pub mod Underway
 pub mod Intervals

@@ -1,5 +1,5 @@
 -- A stage against the timeline that it stands for.
-use Rattle.std.specs.Prelude.{ℕ, zero, suc, ◌≡◌, ◌≢◌, ◌<◌, ◌≤◌, Bool, true, false, not, List, [], ◌∷◌, ◌++◌, All, map, length, Some, slice_get, if◌then◌else◌}
+use Rattle.std.specs.Prelude.{ℕ, ◌≡◌, ◌≢◌, ◌<◌, ◌≤◌, Bool, true, false, not, List, [], ◌∷◌, ◌++◌, All, map, length, Some, slice_get, if◌then◌else◌}
 use Rattle.std.specs.List.{list_any}
 use Rattle.rtp_units.specs.declared.SyncInfo.{SyncInfo}
 use Rattle.jitter_model.specs.declared.Entry.TheVariants.{Ends}
@@ -28,6 +28,7 @@ use Rattle.lane_core.specs.Lanes.{Base, Adds as AddsLines}
 use Rattle.lane_core.specs.AllLanes.{LanesRest, all_resting, resting_and, wakes_in}
 use Rattle.bin_core.specs.declared.standings.Standing.{Standing}
 use Rattle.bin_core.specs.declared.stage.Stage.{Stage}
+use Rattle.bin_core.specs.Touching.{is_listed}
 
 -- ---- sessions
 
@@ -118,19 +119,13 @@ DoesAll t xs old new before after =
 
 -- ---- ticks of some lanes
 
--- Those that pass: a lane for which nothing is said passes.
-abbrev pub passes_by : List Bool → ℕ → Bool
-passes_by [] k = true
-passes_by (b ∷ bs) zero = b
-passes_by (b ∷ bs) (suc k) = passes_by bs k
-
--- the lanes that pass tick, and then all are at rest
-abbrev pub TicksWhere : ℕ → List Bool → Stage → Stage → List BinLine → List BinLine → Type 0
-TicksWhere t touched old new before after =
+-- the listed lanes tick, and then all are at rest
+abbrev pub TicksListed : ℕ → List ℕ → Stage → Stage → List BinLine → List BinLine → Type 0
+TicksListed t touched old new before after =
     (c : Contents) (base : Base) (tl : Timeline)
-    → StageTells c base (λ k. not (passes_by touched k)) old before tl
+    → StageTells c base (λ k. not (is_listed touched k)) old before tl
     → StageTells c base all_resting new after
-    (ticked_where c (opened c tl) t (passes_by touched) (lane_count tl) tl)
+    (ticked_where c (opened c tl) t (is_listed touched) (lane_count tl) tl)
 
 -- ---- reports of lanes
 

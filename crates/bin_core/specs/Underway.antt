@@ -12,6 +12,7 @@ use Rattle.replay_sound.specs.Suited.{AreSuited}
 use Rattle.lane_core.specs.declared.lane.Lane.{Lane}
 use Rattle.bin_core.specs.declared.standings.Standing.{Standing}
 use Rattle.bin_core.specs.declared.stage.Stage.{Stage}
+use Rattle.bin_core.specs.Waking.{AreWakes}
 
 -- The lanes began so, and none of them took more than so many packets.
 pub record AreOpened (os : List Opening) (pushed : ℕ) (lanes : List Lane) : Type 0 where
@@ -26,8 +27,8 @@ pub record HasLatency (stage : Stage) (session : ℕ) : Type 0 where
   pub is : slice_get stage.standings session ≡ Some standing
   pub small : standing.latency ≤ 600000000000
 
--- The front of a script was given these events, of which so many are records. The lanes stand as its
--- steps lead to, but for these steps, which are still to be done.
+-- The front of a script was given these events, of which so many are records. The lanes stand as
+-- its steps lead to, but for these steps, which are still to be done. The lanes' wakes are kept.
 pub record IsUnderway (n : ℕ) (owed : List Step) (stage : Stage) : Type 0 where
   pub script : Contents
   pub events : List FrontEvent
@@ -44,6 +45,7 @@ pub record IsUnderway (n : ℕ) (owed : List Step) (stage : Stage) : Type 0 wher
   pub suited : AreSuited begun owed
   pub room : length begun ≤ 64
   pub opened : AreOpened begun pushed stage.lanes.items
+  pub wakes : AreWakes stage.wakes stage.lanes.items
   pub latencies : (session : ℕ) → session < 8 → HasLatency stage session
 
 -- There are such a script and such events.

@@ -12,8 +12,8 @@ abbrev pub time_of : Bin → ℕ
 time_of bin = bin.time
 
 -- whether something was served since the last input
-abbrev pub is_ahead : Bin → Bool
-is_ahead bin = bin.ahead
+abbrev pub ahead_of : Bin → Bool
+ahead_of bin = bin.ahead
 
 -- whether the end was told
 abbrev pub is_finished : Bin → Bool

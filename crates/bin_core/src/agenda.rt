@@ -5,8 +5,7 @@ ghost use Rattle.replay_model.specs.Serving.{earlier as earlier_of, up_to as up_
 
 use crate::room::Room;
 use crate::stage::Stage;
-use crate::touched::mark_given;
-use lane_core::first_wake;
+use crate::touched::{list_begun, list_given};
 use pcap_file::PcapRecord;
 use replay_model::laws::serves_all;
 use replay_model::{Due, END_OF_TIME, Wake};
@@ -79,10 +78,7 @@ impl Agenda {
         ensures rests { OnOk result (StaysAtRest self.old.stage self.new.stage) }
     {
         let report = if reports { self.next_report } else { None };
-        match up_to(
-            limit,
-            earlier(report, first_wake(self.stage.lanes.as_slice())),
-        ) {
+        match up_to(limit, earlier(report, self.stage.next_turn())) {
             None => Ok(false),
             Some(Due::Reports(time)) => {
                 self.report(alloc, time, lines)?;
@@ -159,10 +155,12 @@ impl Agenda {
         let Room { steps, touched } = &mut self.room;
         steps.clear();
         self.stage.front.take(alloc, time, link, rec, steps)?;
-        mark_given(touched, self.stage.lanes.len(), steps.as_slice())?;
+        list_given(touched, steps.as_slice())?;
+        let began = self.stage.lanes.len();
         self.stage.walk(alloc, time, steps, lines)?;
+        list_begun(touched, began, self.stage.lanes.len())?;
         self.stage
-            .tick_where(alloc, time, touched.as_slice(), lines)?;
+            .tick_listed(alloc, time, touched.as_slice(), lines)?;
         self.latest = self.latest.max(time);
         Ok(())
     }

@@ -35,14 +35,14 @@ impl Bin {
     ghost use Rattle.replay_model.specs.Fitting.{IsItem};
     ghost use Rattle.replay_model.specs.Inputs.{OfCapture, OfScript};
     ghost use Rattle.bin_core.specs.Words.{records_of, time_of, due_left};
-    ghost use Rattle.bin_core.specs.Words.{is_ahead as is_ahead_of, is_finished, is_broken};
+    ghost use Rattle.bin_core.specs.Words.{ahead_of, is_finished, is_broken};
     ghost use Rattle.bin_core.specs.Bins.{BinStands, Serves, HasServed, Takes, Ends, timed};
 
     /// A bin before any record and item.
     pub fn new(alloc: Global, script: &Script) -> Result<Bin, OutOfMemory>
         ensures records { IfOk result (λ bin. records_of bin ≡ 0) }
         ensures time { IfOk result (λ bin. time_of bin ≡ 0) }
-        ensures level { IfOk result (λ bin. is_ahead_of bin ≡ false) }
+        ensures level { IfOk result (λ bin. ahead_of bin ≡ false) }
         ensures open { IfOk result (λ bin. is_finished bin ≡ false) }
         ensures stands { IfOk result (λ bin. BinStands script.now bin [] []) }
     {
@@ -72,7 +72,7 @@ impl Bin {
 
     /// Whether something was served since the last input.
     pub fn is_ahead(&self) -> bool
-        ensures { result ≡ is_ahead_of self.now }
+        ensures { result ≡ ahead_of self.now }
     {
         self.ahead
     }
@@ -134,7 +134,7 @@ impl Bin {
         requires open { is_finished self.old ≡ false }
         ensures records { records_of self.new ≡ n }
         ensures time { time_of self.new ≡ time }
-        ensures level { is_ahead_of self.new ≡ false }
+        ensures level { ahead_of self.new ≡ false }
         ensures open { is_finished self.new ≡ false }
         ensures takes { OnOk result (Takes (OfCapture (timed time link rec.now)) self.old self.new
             lines.old lines.new) }
@@ -166,7 +166,7 @@ impl Bin {
         requires open { is_finished self.old ≡ false }
         ensures records { records_of self.new ≡ records_of self.old }
         ensures time { time_of self.new ≡ item.now.time }
-        ensures level { is_ahead_of self.new ≡ false }
+        ensures level { ahead_of self.new ≡ false }
         ensures open { is_finished self.new ≡ false }
         ensures takes { OnOk result (Takes (OfScript item.now) self.old self.new
             lines.old lines.new) }
@@ -186,7 +186,7 @@ impl Bin {
     /// Serves the wakes that are left, ends the lanes and adds the last line. Nothing was served
     /// since the last input.
     pub fn finish(&mut self, alloc: Global, lines: &mut Lines) -> Result<(), OutOfMemory>
-        requires level { is_ahead_of self.old ≡ false }
+        requires level { ahead_of self.old ≡ false }
         requires open { is_finished self.old ≡ false }
         ensures records { records_of self.new ≡ records_of self.old }
         ensures finished { is_finished self.new ≡ true }

@@ -10,6 +10,7 @@ mod room;
 mod stage;
 mod standings;
 mod touched;
+mod wakes;
 
 pub use bin::{Bin, MAX_RECORDS};
 pub use timeline::{BinLine, Lines, Word};

@@ -4,12 +4,12 @@ use std::alloc::Global;
 
 /// The steps of the front for one input, and which lanes tick behind them.
 ///
-/// What the lists hold between two inputs means nothing: they are kept so that their memory is taken
-/// once.
+/// What the lists hold between two inputs means nothing: they are kept so that their memory is
+/// taken once.
 #[derive(Drop)]
 pub struct Room {
     pub steps: Vec<Step>,
-    pub touched: Vec<bool>,
+    pub touched: Vec<usize>,
 }
 
 impl Room {

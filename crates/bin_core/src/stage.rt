@@ -5,10 +5,12 @@ ghost use Rattle.bin_core.specs.Stages.{AreQuiet, TellsAll};
 use crate::offsets::keep;
 use crate::requests::send;
 use crate::standings::{Standing, after};
-use crate::touched::{mark_meant, passes};
+use crate::touched::{list_meant, next_listed};
+use crate::wakes::Wakes;
 use front_model::{Opening, SenderReport, Step};
 use lane_core::{Lane, control, done_line, open};
 use ntp_sync::LaneSync;
+use replay_model::Wake;
 use replay_sound::laws::{reports_only_tell, scripts_are_sound, steps_suit_a_bin};
 use rtp_front::Front;
 use rtp_units::OutOfMemory;
@@ -19,14 +21,15 @@ use timeline::Lines;
 /// The pushers of a lane are numbers below this: the sessions and the script.
 const PUSHER_COUNT: u8 = 9;
 
-/// The front, the lanes by their numbers, the reports of lanes under their sources' CNAMEs, and how
-/// the sessions stand.
+/// The front, the lanes by their numbers, their wakes, the reports of lanes under their sources'
+/// CNAMEs, and how the sessions stand.
 ///
 /// What the front of a script gives fits the lanes, so nothing of it is tested.
 #[derive(Drop)]
 pub struct Stage {
     pub front: Front,
     pub lanes: Vec<Lane>,
+    pub wakes: Wakes,
     pub sync: LaneSync,
     pub standings: [Standing; 8],
 }
@@ -42,8 +45,9 @@ impl Stage {
     ghost use Rattle.lane_core.specs.AllLanes.{wakes_in};
     ghost use Rattle.replay_model.specs.Fitting.{IsItem};
     ghost use Rattle.replay_model.specs.Taking.{fronted};
+    ghost use Rattle.replay_model.specs.Serving.{first_wake};
     ghost use Rattle.replay_model.specs.Log.{with_item};
-    ghost use Rattle.bin_core.specs.Stages.{Begins, GoesOn, Does, DoesAll, TicksWhere};
+    ghost use Rattle.bin_core.specs.Stages.{Begins, GoesOn, Does, DoesAll, TicksListed};
     ghost use Rattle.bin_core.specs.Stages.{Ticks, EndsOne, EndsLane, EndsAll, Finishes};
     ghost use Rattle.bin_core.specs.Stages.{SameButOne, SameWakes};
     ghost use Rattle.bin_core.specs.Underway.{Owes, IsAtRest, StaysAtRest};
@@ -62,12 +66,23 @@ impl Stage {
         let front = Front::new(alloc, script)?;
         let sync = LaneSync::new(alloc)?;
         let lanes = Vec::new(alloc);
+        let wakes = Wakes::new(alloc)?;
         Ok(Stage {
             front,
             lanes,
+            wakes,
             sync,
             standings: [standing; 8],
         })
+    }
+
+    /// The first wake of the lanes: the least pair of a time and a lane.
+    pub fn next_turn(&self) -> Option<Wake>
+        requires { IsAtRest self.now }
+        ensures { result
+            ≡ first_wake (wakes_in self.now.lanes.items) (length self.now.lanes.items) }
+    {
+        self.wakes.first()
     }
 
     /// Tells the reports of all sessions.
@@ -184,14 +199,17 @@ impl Stage {
     ) -> Result<(), OutOfMemory>
         requires lane { number < length self.old.lanes.items }
         requires time { time < 2 ^ 63 + 2 ^ 50 }
+        requires rests { IsAtRest self.old }
         ensures stands { OnOk result (Ticks time number self.old self.new lines.old lines.new) }
         ensures same { SameButOne number self.old self.new }
         ensures later { OnOk result (IsLater time (wakes_in self.new.lanes.items number)) }
         ensures rests { OnOk result (StaysAtRest self.old self.new) }
     {
         let lane = &mut self.lanes[number];
+        let was = lane.wake;
         let numbers = lane.tick(alloc, time, lines)?;
-        let (session, ssrc) = (lane.session, lane.ssrc);
+        let (session, ssrc, wake) = (lane.session, lane.ssrc, lane.wake);
+        self.wakes.change(number, was, wake);
         send(
             &mut self.front,
             alloc,
@@ -203,23 +221,25 @@ impl Stage {
         )
     }
 
-    /// The lanes that pass tick, in order.
-    pub fn tick_where(
+    /// The listed lanes tick, in the order of their numbers, each once.
+    pub fn tick_listed(
         &mut self,
         alloc: Global,
         time: u64,
-        touched: &[bool],
+        touched: &[usize],
         lines: &mut Lines,
     ) -> Result<(), OutOfMemory>
         requires time { time < 2 ^ 63 + 2 ^ 50 }
-        ensures ticks { OnOk result (TicksWhere time touched.now self.old self.new
+        requires rests { IsAtRest self.old }
+        ensures ticks { OnOk result (TicksListed time touched.now self.old self.new
             lines.old lines.new) }
         ensures rests { OnOk result (StaysAtRest self.old self.new) }
     {
-        for number in 0..self.lanes.len() {
-            if passes(touched, number) {
-                self.tick(alloc, time, number, lines)?;
-            }
+        let end = self.lanes.len();
+        let mut number = next_listed(touched, 0, end);
+        while number < end {
+            self.tick(alloc, time, number, lines)?;
+            number = next_listed(touched, number + 1, end);
         }
         Ok(())
     }
@@ -229,18 +249,19 @@ impl Stage {
         &mut self,
         alloc: Global,
         item: &Item,
-        touched: &mut Vec<bool>,
+        touched: &mut Vec<usize>,
         lines: &mut Lines,
     ) -> Result<(), OutOfMemory>
-        requires { IsItem item.now }
+        requires item { IsItem item.now }
+        requires rests { IsAtRest self.old }
         ensures stands { OnOk result (GoesOn self.old self.new lines.old lines.new
             (λ c. with_item c item.now)) }
         ensures rests { OnOk result (StaysAtRest self.old self.new) }
     {
         self.standings = after(self.standings, item.action);
         control(&mut self.lanes, item, lines)?;
-        mark_meant(touched, item.action, self.lanes.as_slice())?;
-        self.tick_where(alloc, item.time, touched.as_slice(), lines)
+        list_meant(touched, item.action, self.lanes.as_slice())?;
+        self.tick_listed(alloc, item.time, touched.as_slice(), lines)
     }
 
     // If a lane has this pusher, it ends, the lane takes turns, and what it asks for is sent.

@@ -1,5 +1,5 @@
-//! A bin to which nothing came. What it tells of records and items is shown by the worked cases over
-//! the program.
+//! A bin to which nothing came. What it tells of records and items is shown by the worked cases
+//! over the program.
 use crate::{Bin, BinLine, Lines};
 use script_lang::read;
 use std::test::Fail;

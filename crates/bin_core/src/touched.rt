@@ -1,49 +1,61 @@
 //! Which lanes tick.
-ghost use Rattle.std.specs.Prelude.{◌≡◌, ◌<◌, ℕ, length, get_or, OnOk};
+ghost use Rattle.std.specs.Prelude.{◌≡◌, ◌≤◌, ◌<◌, ◌||◌, nat_le, ℕ, length, get_or, OnOk};
 ghost use Rattle.std.specs.List.{list_any};
 ghost use Rattle.replay_model.specs.Acting.{is_for};
-ghost use Rattle.replay_model.specs.Taking.{touches as touches_of, is_touched};
+ghost use Rattle.replay_model.specs.Taking.{touches};
 ghost use Rattle.lane_core.specs.declared.lane.Lane.{Lane as LaneOf};
-ghost use Rattle.bin_core.specs.Stages.{passes_by};
+ghost use Rattle.bin_core.specs.Touching.{is_listed, lane_given_by, IsNextListed};
 
 use front_model::Step;
 use lane_core::Lane;
 use rtp_units::OutOfMemory;
 use script_lang::Action;
 
-/// Whether a lane ticks: one for which nothing is said does.
-pub fn passes(touched: &[bool], lane: usize) -> bool
-    ensures { result ≡ passes_by touched.now lane }
+/// The first of the listed lanes from a number on, below an end, or the end where there is none.
+pub fn next_listed(touched: &[usize], from: usize, end: usize) -> usize
+    requires { from ≤ end }
+    ensures { IsNextListed touched.now from end result }
 {
-    match touched.get(lane) {
-        None => true,
-        Some(passes) => *passes,
+    let mut next = end;
+    for lane in touched {
+        if from <= *lane && *lane < next {
+            next = *lane;
+        }
     }
+    next
 }
 
-fn touches(step: &Step, lane: usize) -> bool
-    ensures { result ≡ touches_of lane step.now }
+// The lane that a step of a front gives something.
+fn lane_given(step: &Step) -> Option<usize>
+    ensures { result ≡ lane_given_by step.now }
 {
     match step {
-        Step::Tell(_) | Step::Open(_) => false,
-        Step::Push { lane: to, .. } | Step::Sync { lane: to, .. } => usize::from(*to) == lane,
+        Step::Tell(_) | Step::Open(_) => None,
+        Step::Push { lane, .. } | Step::Sync { lane, .. } => Some(usize::from(*lane)),
     }
 }
 
-fn is_given(steps: &[Step], lane: usize) -> bool
-    ensures { result ≡ list_any (touches_of lane) steps.now }
-{
-    steps.iter().any(|step| touches(step, lane))
-}
-
-/// Marks the lanes, of so many, that steps of a front give something, in place of what was marked.
-pub fn mark_given(touched: &mut Vec<bool>, count: usize, steps: &[Step]) -> Result<(), OutOfMemory>
+/// Lists the lanes that steps of a front give something, in place of what was listed.
+pub fn list_given(touched: &mut Vec<usize>, steps: &[Step]) -> Result<(), OutOfMemory>
     ensures { OnOk result ((k : ℕ)
-        → passes_by touched.new.items k ≡ is_touched count steps.now k) }
+        → is_listed touched.new.items k ≡ list_any (touches k) steps.now) }
 {
     touched.clear();
-    for lane in 0..count {
-        touched.push(is_given(steps, lane))?;
+    for step in steps {
+        if let Some(lane) = lane_given(step) {
+            touched.push(lane)?;
+        }
+    }
+    Ok(())
+}
+
+/// Lists the lanes of these numbers too.
+pub fn list_begun(touched: &mut Vec<usize>, from: usize, end: usize) -> Result<(), OutOfMemory>
+    ensures { OnOk result ((k : ℕ) → k < end
+        → is_listed touched.new.items k ≡ (nat_le from k || is_listed touched.old.items k)) }
+{
+    for lane in from..end {
+        touched.push(lane)?;
     }
     Ok(())
 }
@@ -59,18 +71,20 @@ fn is_for_session(action: Action, session: u8) -> bool
     }
 }
 
-/// Marks the lanes that an action is for, in place of what was marked.
-pub fn mark_meant(
-    touched: &mut Vec<bool>,
+/// Lists the lanes that an action is for, in place of what was listed.
+pub fn list_meant(
+    touched: &mut Vec<usize>,
     action: Action,
     lanes: &[Lane],
 ) -> Result<(), OutOfMemory>
     ensures { OnOk result ((k : ℕ) (d : LaneOf) → k < length lanes.now
-        → passes_by touched.new.items k ≡ is_for action (get_or lanes.now k d).session) }
+        → is_listed touched.new.items k ≡ is_for action (get_or lanes.now k d).session) }
 {
     touched.clear();
-    for lane in lanes {
-        touched.push(is_for_session(action, lane.session))?;
+    for lane in 0..lanes.len() {
+        if is_for_session(action, lanes[lane].session) {
+            touched.push(lane)?;
+        }
     }
     Ok(())
 }

@@ -19,7 +19,7 @@ use Rattle.source_table.specs.Table.{Table, kept, name_of, packet_of, changed_by
 use Rattle.front_model.specs.Given.{Setting, Ask, Hears, Names, Reports, Leaves, Closes, is_quick, table}
 use Rattle.front_model.specs.Probation.{Kept, kept_at, answer, waiting, waiting_next}
 use Rattle.front_model.specs.Notes.{Synced, Stray, Left, packet_notes, name_notes, ask_notes}
-use Rattle.front_model.specs.Laws.{subject, has_room, IsAlike}
+use Rattle.front_model.specs.Laws.{subject, has_room, IsAlike, IsTakenAlike}
 
 abbrev the_one : Option ℕ → ℕ
 the_one None = 0
@@ -80,7 +80,11 @@ record Tells (s : Setting) (ssrc : ℕ) (t u : Table) : Type 0 where
   one : Kept2 s t
   other : Kept2 s u
   source : kept t ssrc ≡ kept u ssrc
-  room : nat_lt (length t.sources) 64 ≡ nat_lt (length u.sources) 64
+  room : kept t ssrc ≡ None → nat_lt (length t.sources) 64 ≡ nat_lt (length u.sources) 64
+
+same_in : (o : Option Source) (a b : Bool) (from : Address) (p : Packet) → (o ≡ None → a ≡ b) → heard_in o a from p ≡ heard_in o b from p
+same_in None a b from p e = ap (λ (room : Bool). heard_in None room from p) (e refl)
+same_in (Some s) a b from p e = refl
 
 same_packet : (s : Setting) (t u : Table) (now : ℕ) (view : View) (rate : Option ℕ) (quick : Bool) → Kept2 s t → Kept2 s u → packet_of t now view rate quick ≡ packet_of u now view rate quick
 same_packet s t u now view rate quick k l = ap (λ (n : ℕ). packet_of (record t { probation = n }) now view rate quick) (k.probation ∙ sym l.probation)
@@ -89,8 +93,8 @@ same_heard : (s : Setting) (ssrc : ℕ) (t u : Table) (from : Address) (p : Pack
 same_heard s ssrc t u from p e =
     heard_parts t from ssrc p
     ∙ ap (λ (own : ℕ). heard_from own (kept t ssrc) (nat_lt (length t.sources) 64) from ssrc p) (e.one.own ∙ sym e.other.own)
-    ∙ ap (λ (o : Option Source). heard_from u.own o (nat_lt (length t.sources) 64) from ssrc p) e.source
-    ∙ ap (λ (b : Bool). heard_from u.own (kept u ssrc) b from ssrc p) e.room
+    ∙ ap (λ (r : Result Heard Refuse). if nat_eq ssrc u.own then Err Own else r) (same_in (kept t ssrc) (nat_lt (length t.sources) 64) (nat_lt (length u.sources) 64) from p e.room)
+    ∙ ap (λ (o : Option Source). heard_from u.own o (nat_lt (length u.sources) 64) from ssrc p) e.source
     ∙ sym (heard_parts u from ssrc p)
 
 -- ---- a source that is put
@@ -148,11 +152,11 @@ source_name t ssrc x text Unknown = refl
 abbrev Alike : Setting → ℕ → Ask → List Ask → List Ask → Type 0
 Alike s ssrc ask here there = (ask_notes s here ask ≡ ask_notes s there ask) × IsAlike s ssrc (ask ∷ here) (ask ∷ there)
 
-tells : (s : Setting) (ssrc : ℕ) (here there : List Ask) → IsAlike s ssrc here there → has_room s here ≡ has_room s there → Tells s ssrc (table s here) (table s there)
+tells : (s : Setting) (ssrc : ℕ) (here there : List Ask) → IsAlike s ssrc here there → (kept (table s here) ssrc ≡ None → has_room s here ≡ has_room s there) → Tells s ssrc (table s here) (table s there)
 tells s ssrc here there e room = record { one = keeps s here; other = keeps s there; source = e.source; room = room }
 
-about_packet : (s : Setting) (now : ℕ) (from : Address) (view : View) (rate : Option ℕ) (here there : List Ask) → IsAlike s view.ssrc here there → has_room s here ≡ has_room s there
-    → Alike s view.ssrc (Hears now from view rate) here there
+about_packet : (s : Setting) (now : ℕ) (from : Address) (view : View) (rate : Option ℕ) (here there : List Ask) → IsAlike s view.ssrc here there
+    → (kept (table s here) view.ssrc ≡ None → has_room s here ≡ has_room s there) → Alike s view.ssrc (Hears now from view rate) here there
 about_packet s now from view rate here there e room =
     let t = table s here in
     let u = table s there in
@@ -206,7 +210,7 @@ about_change s x f here there e = (
   names_change (table s here) x x (kept (table s here) x) f ∙ e.name ∙ sym (names_change (table s there) x x (kept (table s there) x) f),
 )
 
-pub own : (s : Setting) (ssrc : ℕ) (ask : Ask) (here there : List Ask) → subject ask ≡ Some ssrc → IsAlike s ssrc here there → has_room s here ≡ has_room s there → Alike s ssrc ask here there
+pub own : (s : Setting) (ssrc : ℕ) (ask : Ask) (here there : List Ask) → subject ask ≡ Some ssrc → IsAlike s ssrc here there → IsTakenAlike s ask here there → Alike s ssrc ask here there
 own s ssrc (Hears now from view rate) here there e a room =
     let same : ssrc ≡ view.ssrc = sym (the_same view.ssrc ssrc e) in
     subst (λ (x : ℕ). Alike s x (Hears now from view rate) here there) (sym same)

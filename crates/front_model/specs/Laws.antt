@@ -169,12 +169,19 @@ subject (Closes now timeout) = None
 abbrev pub has_room : Setting → List Ask → Bool
 has_room s asks = nat_lt (length (table s asks).sources) 64
 
--- Where a source, its name and its waiting packets are alike, and so is whether a new one is taken
--- in, a call about it is told alike, and leaves them alike.
+-- Both take in the source of a packet, or neither does: room matters to a source that is not kept,
+-- and to no other call.
+abbrev pub IsTakenAlike : Setting → Ask → List Ask → List Ask → Type 0
+IsTakenAlike s (Hears now from view rate) here there =
+    kept (table s here) view.ssrc ≡ None → has_room s here ≡ has_room s there
+IsTakenAlike s ask here there = Unit {0}
+
+-- Where a source, its name and its waiting packets are alike, and so is whether it is taken in, a
+-- call about it is told alike, and leaves them alike.
 abbrev pub HangsOnItsOwn : Type 0
 HangsOnItsOwn =
     (s : Setting) (ssrc : ℕ) (ask : Ask) (here there : List Ask) → subject ask ≡ Some ssrc
-    → IsAlike s ssrc here there → has_room s here ≡ has_room s there
+    → IsAlike s ssrc here there → IsTakenAlike s ask here there
     → (ask_notes s here ask ≡ ask_notes s there ask) × IsAlike s ssrc (ask ∷ here) (ask ∷ there)
 
 -- A report time leaves of a source what it would leave of it alone.

@@ -2,7 +2,7 @@
 ghost use Rattle.std.specs.Prelude.{◌≡◌, ◌<◌, ◌≤◌, ◌-◌, ◌^◌, [], length, IfOk, OnOk, false, List};
 ghost use Rattle.log_text.specs.Text.{line_text as text_of};
 ghost use Rattle.timeline.specs.declared.line.BinLine.{BinLine};
-ghost use Rattle.bin_core.specs.Words.{records_of, time_of, is_ahead, is_finished};
+ghost use Rattle.bin_core.specs.Words.{records_of, time_of, ahead_of, is_finished};
 ghost use Rattle.bin_core.specs.Bins.{BinStands};
 ghost use Rattle.generated_capture.specs.Generated.{generator_script};
 ghost use Rattle.command_core.specs.Steps.{Prints};
@@ -55,7 +55,7 @@ fn replay_with(alloc: Global, first: u16, count: u32, bin: &mut Bin) -> Result<B
     requires stands { BinStands generator_script bin.old [] [] }
     requires records { records_of bin.old ≡ 0 }
     requires time { time_of bin.old ≡ 0 }
-    requires level { is_ahead bin.old ≡ false }
+    requires level { ahead_of bin.old ≡ false }
     requires open { is_finished bin.old ≡ false }
     ensures { IfOk result (λ text. text ≡ text_of false (generated_done first count)) }
 {
@@ -76,7 +76,7 @@ fn replay(
     requires stands { BinStands generator_script bin.old [] [] }
     requires records { records_of bin.old ≡ 0 }
     requires time { time_of bin.old ≡ 0 }
-    requires level { is_ahead bin.old ≡ false }
+    requires level { ahead_of bin.old ≡ false }
     requires open { is_finished bin.old ≡ false }
     ensures { OnOk result (EndsWith lines.new (done_line capture.old)) }
 {

@@ -180,7 +180,8 @@ low_known : (s : State) (o : Option ℕ) (q k : ℕ) → low (state_sight s) o �
 low_known s None q k le e = cc
 low_known s (Some j) q k le e = let same : j ≡ k = cc in omega arith
 
-held_other : (old new : State) (a : Arrival) (n q : ℕ) → Accepts old new a n → q ≢ n → is_some (map.get new.held q) ≡ is_some (map.get old.held q)
+pub held_other : (old new : State) (a : Arrival) (n q : ℕ) → Accepts old new a n → q ≢ n
+    → is_some (map.get new.held q) ≡ is_some (map.get old.held q)
 held_other old new a n q r other =
     let apart : (q == n) ≡ false = grind (arith, common_steps) in
     ap is_some (ap (λ (m : map.FinMap nat_cmp Held). map.get m q) r.held ∙ map.get-insert nat_cmp_total old.held n (record { pts = r.pts; packet = a.packet }) q ∙ ap (λ (b : Bool). if b then Some (record { pts = r.pts; packet = a.packet }) else map.get old.held q) (unsigned_tied q n ∙ apart))

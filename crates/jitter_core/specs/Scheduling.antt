@@ -1,5 +1,7 @@
 -- The timers of requests that are still to come.
-use Rattle.std.specs.Prelude.{ℕ, zero, suc, IsSome, ◌≢◌, ◌+◌, ◌-◌, ◌≡◌, ◌≤◌, ◌<◌, ◌&&◌, Bool, true, false, Option, Some, None, nat_lt, nat_le, unwrap_or, if◌then◌else◌}
+use Rattle.std.specs.Prelude.{ℕ, zero, suc, IsSome, ◌≢◌, ◌+◌, ◌-◌, ◌≡◌, ◌≤◌, ◌<◌, ◌&&◌, ◌||◌, Bool}
+use Rattle.std.specs.Prelude.{true, false, Option, Some, None, is_some, nat_lt, nat_le, unwrap_or}
+use Rattle.std.specs.Prelude.{if◌then◌else◌}
 use Rattle.std.specs.FinMap as map
 use Rattle.jitter_timers.specs.Timers.{Times}
 use Rattle.jitter_model.specs.declared.Settings.{Settings}
@@ -51,6 +53,22 @@ pub record CanFollow (s : State) (number : ℕ) (m : Times) : Type 0 where
   pub few : map.len m ≤ 8192
   pub within : AreInRange s m
   pub others : AreTimersBut s number m
+
+-- whether a packet with this number that was accepted is below the greatest one, and leaves the
+-- lowest one as it was
+abbrev pub fills : State → ℕ → Bool
+fills s n =
+    nat_lt n (unwrap_or s.span.top 0) && nat_le (low (state_sight s) s.span.next) n
+    && (is_some s.span.next || nat_lt (low (state_sight s) s.span.next) n)
+
+-- the number lies between the lowest and the greatest one, and all timers are right but for its own
+pub record CanFill (s : State) (number : ℕ) (m : Times) : Type 0 where
+  pub from : low (state_sight s) s.span.next ≤ number
+  pub to : number ≤ unwrap_or s.span.top 0
+  pub few : map.len m ≤ 8192
+  pub within : AreInRange s m
+  pub others : (n : ℕ) → n ≢ number
+      → IsTimer s.settings (state_sight s) (low (state_sight s) s.span.next) n (map.get m n)
 
 -- the timers have room, and are right unless they are stale
 pub record IsTimed (s : State) (x : Schedule) : Type 0 where

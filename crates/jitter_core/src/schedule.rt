@@ -6,7 +6,9 @@ ghost use Rattle.jitter_timers.specs.Timers.{queue, IsQueue, HasRoom};
 ghost use Rattle.jitter_model.specs.Turns.{low as low_of};
 ghost use Rattle.jitter_core.specs.Steps.{IsBounded};
 ghost use Rattle.jitter_core.specs.Requesting.{asked_of};
-ghost use Rattle.jitter_core.specs.Scheduling.{pending, with_timer, IsTimed, AreTimers, AreTimersBut, AreInRange, AreLater, state_gaps};
+ghost use Rattle.jitter_core.specs.Scheduling.{pending, with_timer, IsTimed, AreTimers};
+ghost use Rattle.jitter_core.specs.Scheduling.{AreTimersBut, CanFill, AreInRange, AreLater};
+ghost use Rattle.jitter_core.specs.Scheduling.{state_gaps};
 ghost use Rattle.jitter_core.specs.Turning.{have_ended, state_sight, state_asked, state_wake, Serves};
 
 use crate::requesting::{Due, due_for, lowest, pending_time};
@@ -69,7 +71,7 @@ fn schedule_all<L: Ledger>(
     }
 }
 
-/// Sets all timers anew where they are stale.
+/// Sets all timers anew where they are stale, and else none.
 pub fn refresh<L: Ledger>(state: &State, schedule: &mut Schedule, ended: bool, steps: &mut Steps<L>)
     requires bounded { IsBounded state.now }
     requires ended { ended ≡ have_ended state.now.settings.pushers state.now.progress.ended }
@@ -78,6 +80,7 @@ pub fn refresh<L: Ledger>(state: &State, schedule: &mut Schedule, ended: bool, s
     ensures right { AreTimers state.now schedule.new.timers.times }
     ensures stale { schedule.new.stale ≡ false }
     ensures quick { steps.new ≤ steps.old + 14 * (state_gaps state.now + 1) }
+    ensures none { schedule.old.stale ≡ false → steps.new ≡ steps.old }
 {
     if schedule.stale {
         schedule_all(state, &mut schedule.timers, ended, steps);
@@ -177,6 +180,26 @@ pub fn follow<L: Ledger>(
     if lowest(state) + reorder <= number {
         reschedule(state, timers, number - reorder, ended, steps);
     }
+}
+
+/// Sets the timer that changes with a packet between the lowest and the greatest number: its own.
+pub fn fill<L: Ledger>(
+    state: &State,
+    timers: &mut TimerQueue,
+    number: u64,
+    ended: bool,
+    steps: &mut Steps<L>,
+)
+    requires bounded { IsBounded state.now }
+    requires ended { ended ≡ have_ended state.now.settings.pushers state.now.progress.ended }
+    requires small { number ≤ 2 ^ 62 }
+    requires room { timers.old.room ≡ 16384 }
+    requires others { CanFill state.now number timers.old.times }
+    ensures room { timers.new.room ≡ 16384 }
+    ensures right { AreTimers state.now timers.new.times }
+    ensures quick { steps.new ≤ steps.old + 14 }
+{
+    reschedule(state, timers, number, ended, steps);
 }
 
 /// Serves a request.

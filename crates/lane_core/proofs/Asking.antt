@@ -17,13 +17,12 @@ use Rattle.jitter_model.specs.Laws.{IsWindow}
 use Rattle.jitter_model.specs.Requests.{Wanted, Asked, due}
 use Rattle.jitter_model.specs.Runs.{Run}
 use Rattle.jitter_model.specs.Turns.{Sight, low, wanted, first_undue, is_asked, asked_for, asked_from, asked, packet_turn, request_turn, turn_by, sight, turn}
-use Rattle.jitter_model.proofs.Chain.{split, by_turn, least_from_le, least_from_after, least_from_passes}
-use Rattle.jitter_model.proofs.Falling.{earlier_one}
 use Rattle.jitter_core.specs.declared.buffer.Buffer.{Buffer}
 use Rattle.jitter_core.specs.Words.{Stands, settings_of}
 use Rattle.replay_model.specs.Turning.{asked_by}
 use Rattle.lane_core.specs.declared.counts.Counts.{Counts}
 use Rattle.lane_core.specs.Totals.{IsCounted}
+use Rattle.lane_core.proofs.Cases.{split, earlier_one, by_turn, least_from_le, least_from_after, least_from_passes}
 
 -- ---- how many numbers pass
 

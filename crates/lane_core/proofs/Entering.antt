@@ -25,7 +25,7 @@ use Rattle.lane_core.specs.declared.counts.Counts.{Counts}
 use Rattle.lane_core.specs.declared.lane.Lane.{Lane}
 use Rattle.lane_core.specs.Totals.{with_push}
 use Rattle.lane_core.specs.Lanes.{SameLane, Around, Tallies, LaneHolds, LaneTells, begun_with, pushed_at, replied_at, met_at}
-use Rattle.replay_model.proofs.Lanes.{lane_here}
+use Rattle.lane_core.proofs.Histories.{lane_here}
 use Rattle.lane_core.proofs.Settling.{holds_more, others_more}
 use Rattle.lane_core.proofs.Tallying.{Sums, adds_more, push_tallied, none_tallied}
 

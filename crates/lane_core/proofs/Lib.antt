@@ -1,3 +1,5 @@
+pub mod Cases
+pub mod Histories
 pub mod Outcomes
 pub mod Totals
 pub mod Tallying
@@ -5,7 +7,6 @@ pub mod Settling
 pub mod Asking
 pub mod Entering
 pub mod Placing
-pub mod Serving
 pub mod Opening
 pub mod Sending
 pub mod Summing

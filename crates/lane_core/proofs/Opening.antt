@@ -10,11 +10,11 @@ use Rattle.front_model.specs.declared.Opening.{Opening}
 use Rattle.replay_model.specs.Events.{Timeline, Began, At, lane, openings}
 use Rattle.replay_model.specs.Lanes.{lane_count, opening_or, opened, latency_of, is_flushing_of}
 use Rattle.replay_model.specs.Taking.{flushed_at_begin, begun}
-use Rattle.replay_model.proofs.Keeping.{at_append}
 use Rattle.lane_core.specs.declared.counts.Counts.{Counts}
 use Rattle.lane_core.specs.declared.lane.Lane.{Lane}
 use Rattle.lane_core.specs.Lanes.{Base, FreshLane, LaneTells, GoesOn, begun_with}
 use Rattle.lane_core.specs.AllLanes.{total, resting_but, BeginsAs, LanesRest}
+use Rattle.lane_core.proofs.Histories.{at_append}
 use Rattle.lane_core.proofs.Placing.{lanes_apart, lanes_opened, new_tells}
 
 -- the lanes as they began, behind the latency and the flush

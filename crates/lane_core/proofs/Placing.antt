@@ -15,11 +15,11 @@ use Rattle.replay_model.specs.Lines.{lines, out_in, lost_in, refused_in}
 use Rattle.replay_model.specs.Acting.{is_for, acted_on}
 use Rattle.replay_model.specs.Lanes.{lane_count, opened}
 use Rattle.replay_model.specs.Serving.{wake}
-use Rattle.replay_model.proofs.Lanes.{by_cases}
 use Rattle.lane_core.specs.declared.counts.Counts.{Counts}
 use Rattle.lane_core.specs.declared.lane.Lane.{Lane}
 use Rattle.lane_core.specs.Lanes.{SameLane, Base, Adds, Tallies, Around, LaneHolds, LaneTells, LaneRests, met_at}
 use Rattle.lane_core.specs.AllLanes.{wakes_in, out_of, lost_of, refused_of, total, SameLanes, LanesTell, LanesRest, LanesHold, all_resting, resting_but, resting_and}
+use Rattle.lane_core.proofs.Cases.{by_cases}
 use Rattle.lane_core.proofs.Settling.{same_lane, same_lane_then}
 use Rattle.lane_core.proofs.Tallying.{Sums, adds_more, tallies_more}
 
@@ -163,6 +163,14 @@ pub wake_here : (ls : List Lane) (i : ℕ) (l : Lane) → i < length ls → l �
 wake_here [] i l lt e = absurd (omega arith)
 wake_here (a ∷ ls) zero l lt e = ap (λ (x : Lane). x.wake) e
 wake_here (a ∷ ls) (suc i) l lt e = wake_here ls i l (omega arith) e
+
+-- a lane in the place of another one with the same wake
+pub wakes_stay : (ls : List Lane) (n : ℕ) (was b : Lane) → n < length ls → was ≡ get_or ls n was → b.wake ≡ was.wake → (k : ℕ) → wakes_in (set ls n b) k ≡ wakes_in ls k
+wakes_stay ls n was b lt e same k =
+    by_cases (k == n)
+    (λ at. let eq : n ≡ k = grind (arith, common_steps) in
+    subst (λ (m : ℕ). wakes_in (set ls n b) m ≡ wakes_in ls m) eq (wakes_same ls n b lt ∙ same ∙ wake_here ls n was lt e))
+    (λ at. let ne : k ≢ n = grind (arith, common_steps) in wakes_other ls n k b ne)
 
 -- One lane goes on, and is left as it was where it is at rest.
 pub lanes_step :

@@ -14,7 +14,7 @@ use Rattle.front_model.specs.declared.Opening.{Opening}
 use Rattle.replay_model.specs.Events.{Timeline, At, lane}
 use Rattle.replay_model.specs.Lines.{lines, turn_lines}
 use Rattle.replay_model.specs.Turning.{turned, all_turns, asked, asked_by}
-use Rattle.replay_model.proofs.Lanes.{lane_here, lane_other}
+use Rattle.lane_core.proofs.Histories.{lane_here, lane_other}
 use Rattle.lane_core.specs.declared.lane.Lane.{Lane}
 use Rattle.lane_core.specs.Totals.{with_turn}
 use Rattle.lane_core.specs.declared.counts.Counts.{Counts}

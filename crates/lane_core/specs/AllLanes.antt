@@ -54,7 +54,7 @@ pub record SameLanes (old new : List Lane) : Type 0 where
   pub count : length new ≡ length old
   pub each : (k : ℕ) (d : Lane) → k < length old → SameLane (get_or old k d) (get_or new k d)
 
--- these lanes, and one more that was made for this opening
+-- these lanes, and one more that was made for this opening, and wants no turn
 pub record AddsLane (opening : Opening) (old new : List Lane) : Type 0 where
   pub lane : Lane
   pub added : new ≡ old ++ lane ∷ []
@@ -63,6 +63,7 @@ pub record AddsLane (opening : Opening) (old new : List Lane) : Type 0 where
   pub ssrc_is : lane.ssrc ≡ opening.ssrc
   pub settings : settings_of lane.buffer ≡ opening.settings
   pub pushes : pushes_of lane.buffer ≡ 0
+  pub wake_is : lane.wake ≡ None
 
 -- ---- along the timeline
 

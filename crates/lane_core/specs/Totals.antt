@@ -29,7 +29,8 @@ refusal v = 1
 
 -- the counts after a turn with this reply, and after a push with this verdict
 abbrev pub with_turn : Counts → Turn → Counts
-with_turn c r = record { out = c.out + turn_out r; lost = c.lost + turn_lost r; refused = c.refused }
+with_turn c r =
+    record { out = c.out + turn_out r; lost = c.lost + turn_lost r; refused = c.refused }
 
 abbrev pub with_push : Counts → Verdict → Counts
 with_push c v = record { out = c.out; lost = c.lost; refused = c.refused + refusal v }

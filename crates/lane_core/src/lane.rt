@@ -40,7 +40,7 @@ impl Lane {
     ghost use Rattle.jitter_model.specs.Runs.{IsValid};
     ghost use Rattle.jitter_model.specs.Turns.{turn as reply_to_turn, is_quiet, wake_of};
     ghost use Rattle.jitter_core.specs.Words.{Stands, left_of, now_of, pushes_of, settings_of};
-    ghost use Rattle.replay_model.specs.Acting.{acted_on, done_to, flush_begun, is_for};
+    ghost use Rattle.replay_model.specs.Acting.{acted_on, done_to, flush_begun};
     ghost use Rattle.replay_model.specs.Fitting.{IsAction, IsItem};
     ghost use Rattle.replay_model.specs.Turning.{all_turns};
     ghost use Rattle.lane_core.specs.Totals.{with_turn};
@@ -88,6 +88,7 @@ impl Lane {
     ) -> Result<(), OutOfMemory>
         requires { latency ≤ 600000000000 }
         ensures stays { SameLane self.old self.new }
+        ensures wake { self.new.wake ≡ self.old.wake }
         ensures stands { OnOk result (GoesOn self.old self.new lines.old lines.new
             (begun_with time latency flushing)) }
     {
@@ -102,6 +103,7 @@ impl Lane {
     // A flush begins.
     fn begin_flush(&mut self, time: u64, lines: &mut Lines) -> Result<(), OutOfMemory>
         ensures stays { SameLane self.old self.new }
+        ensures wake { self.new.wake ≡ self.old.wake }
         ensures stands { OnOk result (GoesOn self.old self.new lines.old lines.new
             (λ o n. flush_begun time n)) }
     {
@@ -124,6 +126,7 @@ impl Lane {
         requires stamp { arrival.stamp < 2 ^ 63 }
         requires few { pushes_of self.old.buffer < 2 ^ 31 }
         ensures stays { PushedLane self.old self.new }
+        ensures wake { self.new.wake ≡ self.old.wake }
         ensures stands { OnOk result (GoesOn self.old self.new lines.old lines.new
             (pushed_at time arrival)) }
     {
@@ -147,6 +150,7 @@ impl Lane {
         lines: &mut Lines,
     ) -> Result<Option<SyncInfo>, OutOfMemory>
         ensures stays { SameLane self.old self.new }
+        ensures wake { self.new.wake ≡ self.old.wake }
         ensures replies { IfOk result (Replies self.old report.now.ntp_ns report.now.rtp) }
         ensures stands { OnOk result (GoesOn self.old self.new lines.old lines.new
             (reported_at time report.now.ntp_ns report.now.rtp)) }
@@ -243,8 +247,7 @@ impl Lane {
     pub fn control(&mut self, item: &Item, lines: &mut Lines) -> Result<(), OutOfMemory>
         requires { IsItem item.now }
         ensures stays { SameLane self.old self.new }
-        ensures others { is_for item.now.action self.old.session ≡ false
-            → self.new.wake ≡ self.old.wake }
+        ensures wake { self.new.wake ≡ self.old.wake }
         ensures stands { OnOk result (GoesOn self.old self.new lines.old lines.new
             (met_at item.now)) }
     {
@@ -259,6 +262,7 @@ impl Lane {
     fn meet(&mut self, item: &Item, lines: &mut Lines) -> Result<(), OutOfMemory>
         requires { IsItem item.now }
         ensures stays { SameLane self.old self.new }
+        ensures wake { self.new.wake ≡ self.old.wake }
         ensures stands { OnOk result (GoesOn self.old self.new lines.old lines.new
             (λ o n. acted_on item.now.time n item.now.action)) }
     {
@@ -270,6 +274,7 @@ impl Lane {
     fn act(&mut self, time: u64, action: Action, lines: &mut Lines) -> Result<(), OutOfMemory>
         requires { IsAction action }
         ensures stays { SameLane self.old self.new }
+        ensures wake { self.new.wake ≡ self.old.wake }
         ensures stands { OnOk result (GoesOn self.old self.new lines.old lines.new
             (λ o n. done_to time n action)) }
     {

@@ -1,14 +1,12 @@
 //! The lanes of a bin, by their numbers.
-ghost use Rattle.std.specs.Prelude.{◌≡◌, ◌≤◌, ◌++◌, ◌∷◌, [], length, OnOk, OnErr};
+ghost use Rattle.std.specs.Prelude.{◌≡◌, ◌≤◌, ◌++◌, ◌∷◌, [], ℕ, length, OnOk, OnErr};
 ghost use Rattle.jitter_model.specs.Runs.{IsValid};
 ghost use Rattle.replay_model.specs.Fitting.{IsItem};
-ghost use Rattle.replay_model.specs.Serving.{with_wake, first_wake as first_of};
 ghost use Rattle.lane_core.specs.AllLanes.{ActOn, AddsLane, Open, SameLanes, done_of, wakes_in};
 
 use crate::lane::Lane;
 use front_model::Opening;
 use jitter_model::laws::{accepted_in_window, covers_from_next};
-use replay_model::Wake;
 use rtp_units::OutOfMemory;
 use script_lang::Item;
 use std::alloc::Global;
@@ -16,28 +14,6 @@ use timeline::{BinLine, Lines};
 
 /// The most lanes of a bin.
 pub const MAX_LANES: usize = 64;
-
-// The earlier wake; the first of two at one time.
-fn earlier(first: Option<Wake>, lane: usize, wake: Option<u64>) -> Option<Wake>
-    ensures { result ≡ with_wake first lane wake }
-{
-    match (first, wake) {
-        (first, None) => first,
-        (Some(first), Some(time)) if first.time <= time => Some(first),
-        (_, Some(time)) => Some(Wake { time, lane }),
-    }
-}
-
-/// The first wake of the lanes: the least pair of a time and a lane.
-pub fn first_wake(lanes: &[Lane]) -> Option<Wake>
-    ensures { result ≡ first_of (wakes_in lanes.now) (length lanes.now) }
-{
-    let mut found = None;
-    for i in 0..lanes.len() {
-        found = earlier(found, i, lanes[i].wake);
-    }
-    found
-}
 
 /// A lane begins at a time behind the others, with the latency that its session has, and in its
 /// flush.
@@ -78,6 +54,7 @@ fn add(lanes: &mut Vec<Lane>, lane: Lane) -> Result<(), OutOfMemory>
 pub fn control(lanes: &mut Vec<Lane>, item: &Item, lines: &mut Lines) -> Result<(), OutOfMemory>
     requires { IsItem item.now }
     ensures stays { SameLanes lanes.old.items lanes.new.items }
+    ensures wakes { (k : ℕ) → wakes_in lanes.new.items k ≡ wakes_in lanes.old.items k }
     ensures stands { OnOk result (ActOn item.now lanes.old.items lanes.new.items
         lines.old lines.new) }
 {

@@ -13,4 +13,4 @@ mod tests;
 
 pub use counts::Counts;
 pub use lane::Lane;
-pub use lanes::{MAX_LANES, control, done_line, first_wake, open};
+pub use lanes::{MAX_LANES, control, done_line, open};

@@ -2,7 +2,7 @@
 ghost use Rattle.std.specs.Prelude.{◌≡◌, ◌<◌};
 ghost use Rattle.jitter_core.specs.Words.{settings_of};
 
-use crate::{Lane, control, done_line, first_wake, open};
+use crate::{Lane, control, done_line, open};
 use front_model::{Opening, SenderReport};
 use jitter_model::{Arrival, Origin, Packet, Settings};
 use rtp_units::{Blob, Mode, OutOfMemory};
@@ -199,7 +199,7 @@ fn a_lane_of_a_list(rt: HostRuntime) -> Result<(), Fail> {
         action: Action::FlushStop(0),
     };
     control(&mut lanes, &item, &mut lines)?;
-    assert_eq!(rt; first_wake(&lanes), None);
+    assert_eq!(rt; lanes[0].wake, None);
     lines.push(done_line(&lanes, 5))?;
     let want = [Shown::Flush(0), Shown::Flushed, Shown::Done(5, 1, 0, 0, 0)];
     assert!(rt; show(&lines, &want));

@@ -9,6 +9,7 @@ use Rattle.rtp_front.specs.Standing.{StandsFor}
 use Rattle.live_bin.specs.declared.plan.PlanLane.{PlanLane}
 use Rattle.live_plan.specs.declared.builder.PlanBuilder.{PlanBuilder}
 use Rattle.live_plan.specs.Controls.{controls}
+use Rattle.live_plan.specs.Courses.{routes}
 use Rattle.live_plan.specs.Drafts.{Drafted, AreDrafts}
 use Rattle.live_plan.specs.Passed.{HasPassed}
 
@@ -27,6 +28,7 @@ pub record HasTaken (c : Contents) (records : List Record) (b : PlanBuilder) : T
   pub counted : b.front.taken ≡ length records
   pub clock : HasPassed b.clock records
   pub drafts : AreDrafts (plan c records) b.drafts.items
+  pub routes : b.routes.items ≡ routes (plan c records)
   pub works : b.failed ≡ false
 
 -- the lane of a plan that a draft comes to, after all that came to the front

@@ -1,16 +1,19 @@
 //! The plan of a script and a capture, record by record.
-ghost use Rattle.std.specs.Prelude.{◌≡◌, ◌<◌, ◌≤◌, ◌^◌, List, All, length, map, option_map, IfOk};
+ghost use Rattle.std.specs.Prelude.{◌≡◌, ◌<◌, ◌≤◌, ◌^◌, ◌++◌, ◌∷◌, [], List, All, length, map, option_map};
+ghost use Rattle.std.specs.Prelude.{IfOk, OnOk};
 ghost use Rattle.pcap_file.specs.Capture.{Record};
 ghost use Rattle.pcap_file.specs.Reading.{record_view};
 ghost use Rattle.front_model.specs.Events.{FrontEvent};
 ghost use Rattle.rtp_front.specs.Standing.{StandsFor};
+ghost use Rattle.live_plan.specs.Courses.{IsCourseOf, routes};
 ghost use Rattle.live_plan.specs.Planned.{IsPlanOf};
 ghost use Rattle.live_plan.specs.Taken.{finished};
 
 use crate::clock::{RecordClock, START, pass};
-use crate::control::control_list;
+use crate::control::{concerned, control_list};
 use crate::draft::{Draft, place_all};
-use live_bin::{Events, Lanes, Plan, PlanLane, Queues};
+use front_model::Step;
+use live_bin::{Course, Events, Lanes, Plan, PlanLane, Queues, Route};
 use pcap_file::PcapRecord;
 use replay_model::laws::times_go_on;
 use rtp_front::Front;
@@ -28,11 +31,12 @@ pub struct PlanBuilder {
     front: Front,
     clock: RecordClock,
     drafts: Vec<Draft>,
+    routes: Vec<Route>,
     failed: bool,
 }
 
 impl PlanBuilder {
-    ghost use Rattle.std.specs.Prelude.{◌+◌, ◌++◌, ◌∷◌, [], true, OnOk, OnErr, IsErr};
+    ghost use Rattle.std.specs.Prelude.{◌+◌, true, OnErr, IsErr};
     ghost use Rattle.script_lang.specs.Contents.{Contents};
     ghost use Rattle.live_plan.specs.Taken.{HasTaken, records_of, has_failed};
 
@@ -45,6 +49,7 @@ impl PlanBuilder {
             front: Front::new(alloc, script)?,
             clock: START,
             drafts: Vec::new(alloc),
+            routes: Vec::new(alloc),
             failed: false,
         })
     }
@@ -97,13 +102,17 @@ impl PlanBuilder {
         let mut steps = Vec::new(alloc);
         self.front
             .take(alloc, self.clock.time, link, captured, &mut steps)?;
+        note_routes(&mut self.routes, steps.as_slice())?;
         place_all(alloc, &mut self.drafts, steps)
     }
 
-    /// The plan of the script that it began with and of the records that it took.
-    pub fn finish(self, alloc: Global, script: &Script) -> Result<Plan, OutOfMemory>
+    /// The plan of the script that it began with and of the records that it took, and the order in
+    /// which a run of it acts.
+    pub fn finish(self, alloc: Global, script: &Script) -> Result<(Plan, Course), OutOfMemory>
         ensures plan { (records : List Record) → HasTaken script.now records self
-            → IfOk result (IsPlanOf script.now records) }
+            → IfOk result (λ made. IsPlanOf script.now records made.0) }
+        ensures course { (records : List Record) → HasTaken script.now records self
+            → IfOk result (λ made. IsCourseOf script.now records made.1) }
         ensures again { has_failed self ≡ true → IsErr result }
     {
         if self.failed {
@@ -112,8 +121,38 @@ impl PlanBuilder {
         let records = self.front.taken();
         let drafts = self.drafts;
         let lanes = planned_lanes(alloc, &self.front, script, drafts)?;
-        plan_of(records, lanes)
+        let plan = plan_of(records, lanes)?;
+        let events = concerned(alloc, script.items.as_slice())?;
+        let routes = self.routes;
+        Ok((plan, Course { routes, events }))
     }
+}
+
+// Notes the ways of what the steps bring, in order.
+fn note_routes(noted: &mut Vec<Route>, steps: &[Step]) -> Result<(), OutOfMemory>
+    ensures { OnOk result (noted.new.items ≡ noted.old.items ++ routes steps.now) }
+{
+    for step in steps {
+        note_route(noted, step)?;
+    }
+    Ok(())
+}
+
+fn note_route(noted: &mut Vec<Route>, step: &Step) -> Result<(), OutOfMemory>
+    ensures { OnOk result (noted.new.items ≡ noted.old.items ++ routes (step.now ∷ [])) }
+{
+    match step {
+        Step::Tell(_) | Step::Open(_) => {}
+        Step::Push { lane, arrival } => noted.push(Route {
+            session: arrival.pusher,
+            lane: *lane,
+        })?,
+        Step::Sync { lane, report } => noted.push(Route {
+            session: report.pusher,
+            lane: *lane,
+        })?,
+    }
+    Ok(())
 }
 
 // What a front gives fits the lanes. Where it didn't, want of memory would be answered.
@@ -177,16 +216,20 @@ fn owned(alloc: Global, text: Option<&[u8]>) -> Result<Option<Blob>, OutOfMemory
     }
 }
 
-/// The plan of a script and of all records of a capture, whose link type is `link`.
+/// The plan of a script and of all records of a capture, whose link type is `link`, and the order
+/// in which a run of it acts.
 pub fn make_plan(
     alloc: Global,
     script: &Script,
     link: u16,
     records: &[PcapRecord],
-) -> Result<Plan, OutOfMemory>
+) -> Result<(Plan, Course), OutOfMemory>
     requires few { length records.now ≤ 100000000 }
     requires early { All (λ r. r.stamp < 2 ^ 63) records.now }
-    ensures { IfOk result (IsPlanOf script.now (map (record_view link) records.now)) }
+    ensures plan { let taken = map (record_view link) records.now in
+        IfOk result (λ made. IsPlanOf script.now taken made.0) }
+    ensures course { let taken = map (record_view link) records.now in
+        IfOk result (λ made. IsCourseOf script.now taken made.1) }
 {
     let mut builder = PlanBuilder::new(alloc, script)?;
     for captured in records {

@@ -1,6 +1,7 @@
-//! The control list of a lane.
+//! The control list of a lane, and whom the events of all control lists concern.
 ghost use Rattle.std.specs.Prelude.{◌≡◌, ◌++◌, if◌then◌else◌, [], IfOk, OnOk, flat_map};
 ghost use Rattle.live_plan.specs.Controls.{events_of, clocked};
+ghost use Rattle.live_plan.specs.Courses.{concerned_by};
 
 use live_bin::ControlEvent;
 use rtp_units::OutOfMemory;
@@ -53,6 +54,31 @@ fn add_if(
     if own {
         events.push(ControlEvent::Clock(time))?;
         events.push(event)?;
+    }
+    Ok(())
+}
+
+/// The sessions that a script's control events concern, in order, none where it is all of them: an
+/// event of a session and the step of the clock before it are two.
+pub(crate) fn concerned(alloc: Global, items: &[Item]) -> Result<Vec<Option<u8>>, OutOfMemory>
+    ensures { IfOk result (λ sessions. sessions.items ≡ flat_map concerned_by items.now) }
+{
+    let mut sessions = Vec::new(alloc);
+    for item in items {
+        concern(&mut sessions, item)?;
+    }
+    Ok(sessions)
+}
+
+fn concern(sessions: &mut Vec<Option<u8>>, item: &Item) -> Result<(), OutOfMemory>
+    ensures { OnOk result (sessions.new.items ≡ sessions.old.items ++ concerned_by item.now) }
+{
+    match item.action {
+        Action::Clock => sessions.push(None)?,
+        Action::FlushStart(of) | Action::FlushStop(of) | Action::Latency { session: of, .. } => {
+            sessions.push(Some(of))?;
+            sessions.push(Some(of))?;
+        }
     }
     Ok(())
 }

@@ -8,6 +8,7 @@ mod builder;
 mod clock;
 mod control;
 mod draft;
+pub mod laws;
 #[cfg(test)]
 mod tests;
 

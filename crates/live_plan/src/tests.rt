@@ -2,7 +2,7 @@
 ghost use Rattle.std.specs.Prelude.{◌≡◌, ◌<◌, ◌↔◌, All, IsTrue, length};
 
 use crate::{PlanBuilder, make_plan};
-use live_bin::{Entry, LaneHistory, LaneState, Plan, PlanLane, Run};
+use live_bin::{Course, Entry, LaneHistory, LaneState, Plan, PlanLane, Run};
 use pcap_file::PcapRecord;
 use rtp_units::{Blob, OutOfMemory};
 use script_lang::{Script, read};
@@ -147,7 +147,11 @@ fn are_early(records: &[PcapRecord]) -> bool
     records.iter().all(|captured| captured.stamp < 1 << 63)
 }
 
-fn planned(alloc: Global, script: &Script, records: &[PcapRecord]) -> Result<Plan, OutOfMemory> {
+fn planned(
+    alloc: Global,
+    script: &Script,
+    records: &[PcapRecord],
+) -> Result<(Plan, Course), OutOfMemory> {
     if records.len() > 100 || !are_early(records) {
         return Err(OutOfMemory);
     }
@@ -167,7 +171,9 @@ fn three(alloc: Global) -> Result<Vec<PcapRecord>, OutOfMemory> {
 fn a_lane_by_its_plan(rt: HostRuntime) -> Result<(), Fail> {
     let alloc = rt.alloc();
     let script = read(alloc, SCRIPT)?;
-    let plan = planned(alloc, &script, three(alloc)?.as_slice())?;
+    let (plan, course) = planned(alloc, &script, three(alloc)?.as_slice())?;
+    assert_eq!(rt; course.routes.len(), 3);
+    assert_eq!(rt; course.events.len(), 0);
     assert_eq!(rt; plan.records(), 3);
     assert_eq!(rt; plan.len(), 1);
     if plan.len() > 0 {
@@ -209,11 +215,21 @@ fn mixed(alloc: Global) -> Result<Vec<PcapRecord>, OutOfMemory> {
     Ok(records)
 }
 
+/// Whether packets go from session 1 to lane 0, then from session 0 to lane 1, with its report
+/// between them, and the events are those of sessions 0, all, 1 and 1.
+fn is_course_of_two(course: &Course) -> bool {
+    let ways = [(1, 0), (0, 1), (0, 1), (0, 1)];
+    let sessions = [Some(0), Some(0), None, Some(1), Some(1), Some(1), Some(1)];
+    let gone = course.routes.iter().map(|way| (way.session, way.lane));
+    gone.eq(ways) && course.events.iter().copied().eq(sessions)
+}
+
 #[test]
 fn lanes_of_two_sessions(rt: HostRuntime) -> Result<(), Fail> {
     let alloc = rt.alloc();
     let script = read(alloc, TIMED)?;
-    let plan = planned(alloc, &script, mixed(alloc)?.as_slice())?;
+    let (plan, course) = planned(alloc, &script, mixed(alloc)?.as_slice())?;
+    assert!(rt; is_course_of_two(&course));
     assert_eq!(rt; plan.len(), 2);
     if plan.len() > 1 {
         let first = plan.lane(0);
@@ -239,6 +255,7 @@ fn a_plan_record_by_record(rt: HostRuntime) -> Result<(), Fail> {
     assert!(rt; captured.stamp < 1 << 63);
     builder.take(alloc, IPV4, &captured)?;
     assert_eq!(rt; builder.records(), 1);
-    assert_eq!(rt; builder.finish(alloc, &script)?.len(), 1);
+    let (plan, course) = builder.finish(alloc, &script)?;
+    assert_eq!(rt; (plan.len(), course.routes.len()), (1, 1));
     Ok(())
 }

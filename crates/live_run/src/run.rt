@@ -81,8 +81,9 @@ fn make_cells<K: Run>(alloc: Global, plan: &Plan) -> Result<Vec<Cell<K>>, OutOfM
     Ok(cells)
 }
 
-// The control, the sessions, and a loop for each lane. A machine that can't run them beside each
-// other ends them in this order.
+// The control, the sessions, and a loop for each lane, the last one first: where no thread can be
+// made for a part of them, what stands behind it runs before it. So no loop waits on its thread for
+// a pusher that comes later.
 fn make_workers(alloc: Global, plan: &Plan) -> Result<Vec<Worker>, OutOfMemory>
     requires few { length plan.now.lanes ≤ 64 }
     ensures some { IfOk result (λ v. 0 < vec_len v) }
@@ -95,6 +96,7 @@ fn make_workers(alloc: Global, plan: &Plan) -> Result<Vec<Worker>, OutOfMemory>
     for number in 0..plan.len() as u8 {
         workers.push(Worker::Loop(number))?;
     }
+    workers.as_mut_slice().reverse();
     Ok(workers)
 }
 

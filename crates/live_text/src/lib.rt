@@ -2,6 +2,8 @@
 #![tactic(auto)]
 
 #[cfg(test)]
+mod lane_tests;
+#[cfg(test)]
 mod tests;
 mod words;
 

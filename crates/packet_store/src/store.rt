@@ -3,7 +3,7 @@ ghost use Rattle.std.specs.Prelude.{◌≡◌, ℕ, ◌+◌, ◌^◌, ◌<◌, �
 ghost use Rattle.std.specs.Ordering.{nat_cmp};
 ghost use Rattle.std.specs.FinMap as map;
 ghost use Rattle.slot_ring.specs.Ring.{ring};
-ghost use Rattle.packet_store.specs.Bounds.{IsBounded};
+ghost use Rattle.packet_store.specs.Bounds.{IsBounded, IsHeldWithin};
 ghost use Rattle.packet_store.specs.Store.{IsLeast, IsGreatest, IsRun, IsWindow, Offered};
 
 use rtp_units::OutOfMemory;
@@ -32,9 +32,11 @@ pub enum Offer<T> {
 #[derive(Drop)]
 pub struct Store<T> {
     ring: SlotRing<T>,
-    // The least and the greatest held number. Where none is held they say nothing.
-    least: u64,
-    greatest: u64,
+    // No held number is below the lowest or above the highest. They move where that takes no
+    // search, so a number that is missing costs nothing until the least or the greatest one is
+    // asked for.
+    lowest: u64,
+    highest: u64,
 }
 
 impl<T> Model for Store<T> {
@@ -51,7 +53,7 @@ impl<T> Model for Store<T> {
 
     ghost view = { λ s. s.ring.held };
 
-    ghost invariant = { λ s. (s.ring.capacity ≡ 8192) × IsBounded s.ring.held s.least s.greatest };
+    ghost invariant = { λ s. (s.ring.capacity ≡ 8192) × IsBounded s.ring.held s.lowest s.highest };
 }
 
 fn is_held<T>(ring: &SlotRing<T>, number: u64) -> bool
@@ -60,11 +62,10 @@ fn is_held<T>(ring: &SlotRing<T>, number: u64) -> bool
     ring.get(number).is_some()
 }
 
-/// The least held number from `from` on.
+/// The least held number from `from` on, where one up to `to` is held.
 fn next_held<T>(ring: &SlotRing<T>, from: u64, to: u64) -> u64
-    requires range { (from ≤ to) × (to < 2 ^ 63) }
-    requires last { IsSome (map.get ring.now.held to) }
-    ensures range { (from ≤ result) × (result ≤ to) }
+    requires small { to < 2 ^ 63 }
+    requires some { IsHeldWithin ring.now.held from to }
     ensures held { IsSome (map.get ring.now.held result) }
     ensures first { (q : ℕ) → from ≤ q → IsSome (map.get ring.now.held q) → result ≤ q }
 {
@@ -75,11 +76,9 @@ fn next_held<T>(ring: &SlotRing<T>, from: u64, to: u64) -> u64
     number
 }
 
-/// The greatest held number up to `to`.
+/// The greatest held number up to `to`, where one from `from` on is held.
 fn previous_held<T>(ring: &SlotRing<T>, from: u64, to: u64) -> u64
-    requires range { from ≤ to }
-    requires first { IsSome (map.get ring.now.held from) }
-    ensures range { (from ≤ result) × (result ≤ to) }
+    requires { IsHeldWithin ring.now.held from to }
     ensures held { IsSome (map.get ring.now.held result) }
     ensures last { (q : ℕ) → q ≤ to → IsSome (map.get ring.now.held q) → q ≤ result }
 {
@@ -90,36 +89,44 @@ fn previous_held<T>(ring: &SlotRing<T>, from: u64, to: u64) -> u64
     number
 }
 
-/// The bounds once the number is held too.
-fn bounds_with<T>(ring: &SlotRing<T>, least: u64, greatest: u64, number: u64) -> (u64, u64)
-    requires bounds { IsBounded ring.now.held least greatest }
+/// The bounds once a number of the window from `low` on is held too.
+fn bounds_with<T>(
+    ring: &SlotRing<T>,
+    lowest: u64,
+    highest: u64,
+    low: u64,
+    number: u64,
+) -> (u64, u64)
+    requires bounds { IsBounded ring.now.held lowest highest }
+    requires window { IsWindow ring.now.held low }
+    requires low { low ≤ number }
     requires small { number < 2 ^ 63 }
     ensures { (value : T) → IsBounded (map.insert ring.now.held number value) result.0 result.1 }
 {
     if ring.len() == 0 {
         return (number, number);
     }
-    (least.min(number), greatest.max(number))
+    (lowest.max(low).min(number), highest.max(number))
 }
 
-/// The bounds once the number is held no more.
-fn bounds_without<T>(ring: &SlotRing<T>, least: u64, greatest: u64, number: u64) -> (u64, u64)
-    requires inside { (q : ℕ) → IsSome (map.get ring.now.held q) → (least ≤ q) × (q ≤ greatest) × (q ≢ number) }
-    requires least { number ≢ least → IsSome (map.get ring.now.held least) }
-    requires greatest { number ≢ greatest → IsSome (map.get ring.now.held greatest) }
-    requires small { greatest < 2 ^ 63 }
-    ensures { IsBounded ring.now.held result.0 result.1 }
+/// A bound below the numbers from `lowest` on but for this one.
+fn lowest_without(lowest: u64, number: u64) -> u64
+    requires { number < 2 ^ 63 }
+    ensures { (q : ℕ) → lowest ≤ q → q ≢ number → result ≤ q }
 {
-    if least >= greatest {
-        return (least, greatest);
+    if number == lowest { number + 1 } else { lowest }
+}
+
+/// A bound above the numbers up to `highest` but for this one.
+fn highest_without(highest: u64, number: u64) -> u64
+    ensures above { (q : ℕ) → q ≤ highest → q ≢ number → q ≤ result }
+    ensures least { result ≤ highest }
+{
+    if number == highest {
+        number.saturating_sub(1)
+    } else {
+        highest
     }
-    if number == least {
-        return (next_held(ring, least, greatest), greatest);
-    }
-    if number == greatest {
-        return (least, previous_held(ring, least, greatest));
-    }
-    (least, greatest)
 }
 
 impl<T> Store<T> {
@@ -130,8 +137,8 @@ impl<T> Store<T> {
         let ring = SlotRing::with_capacity(alloc, WINDOW_LOG2)?;
         Ok(Store {
             ring,
-            least: 0,
-            greatest: 0,
+            lowest: 0,
+            highest: 0,
         })
     }
 
@@ -153,12 +160,12 @@ impl<T> Store<T> {
         if number >= low + WINDOW {
             return Offer::Full(value);
         }
-        let (least, greatest) = bounds_with(&self.ring, self.least, self.greatest, number);
+        let (lowest, highest) = bounds_with(&self.ring, self.lowest, self.highest, low, number);
         if let Err(value) = self.ring.put(number, value) {
             return Offer::Duplicate(value);
         }
-        self.least = least;
-        self.greatest = greatest;
+        self.lowest = lowest;
+        self.highest = highest;
         Offer::Held
     }
 
@@ -168,9 +175,8 @@ impl<T> Store<T> {
         ensures after { self.new ≡ map.remove self.old number }
     {
         let value = self.ring.take(number)?;
-        let (least, greatest) = bounds_without(&self.ring, self.least, self.greatest, number);
-        self.least = least;
-        self.greatest = greatest;
+        self.lowest = lowest_without(self.lowest, number);
+        self.highest = highest_without(self.highest, number);
         Some(value)
     }
 
@@ -181,24 +187,24 @@ impl<T> Store<T> {
         is_held(&self.ring, number)
     }
 
-    /// The least held number.
+    /// The least held number. Looks through at most as many numbers as a window has.
     pub fn least(&self) -> Option<u64>
         ensures { MatchOption result (self.now ≡ map.empty) (λ n. IsLeast self.now n) }
     {
         if self.ring.len() == 0 {
             return None;
         }
-        Some(self.least)
+        Some(next_held(&self.ring, self.lowest, self.highest))
     }
 
-    /// The greatest held number.
+    /// The greatest held number. Looks through at most as many numbers as a window has.
     pub fn greatest(&self) -> Option<u64>
         ensures { MatchOption result (self.now ≡ map.empty) (λ n. IsGreatest self.now n) }
     {
         if self.ring.len() == 0 {
             return None;
         }
-        Some(self.greatest)
+        Some(previous_held(&self.ring, self.lowest, self.highest))
     }
 
     /// How many consecutive numbers from this one on are held.

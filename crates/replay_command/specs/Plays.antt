@@ -11,7 +11,7 @@ use Rattle.replay_model.specs.Fitting.{IsItem}
 use Rattle.replay_model.specs.Inputs.{Input, inputs, items_left}
 use Rattle.replay_model.specs.Log.{log_part, log}
 use Rattle.replay_model.specs.Order.{input_time}
-use Rattle.bin_core.specs.Words.{records_of, time_of, is_ahead, is_finished}
+use Rattle.bin_core.specs.Words.{records_of, time_of, ahead_of, is_finished}
 use Rattle.bin_core.specs.Bins.{BinStands}
 use Rattle.replay_command.specs.declared.player.Player.{Player}
 use Rattle.command_core.specs.declared.stop.Stop.{Stop}
@@ -32,7 +32,7 @@ time_behind t (i ∷ is) = time_behind i.time is
 -- All lines are written, nothing was served since the last input, and the end is to come.
 pub record IsReady (p : Player) : Type 0 where
   pub none : p.lines ≡ []
-  pub level : is_ahead p.bin ≡ false
+  pub level : ahead_of p.bin ≡ false
   pub running : is_finished p.bin ≡ false
 
 -- a player of this script before any input

@@ -28,7 +28,7 @@ use Rattle.front_model.specs.Types.{rate}
 use Rattle.replay_model.specs.Fitting.{IsComing, AreComing}
 use Rattle.replay_ranges.proofs.Lists.{each_append, each_reverse, each_map, each_flat, IsAny, any_each, total, total_append, total_zero, total_one, total_at_most, total_map, total_flat}
 use Rattle.replay_ranges.proofs.Views.{IsView, IsReport, IsHolding, holding_held}
-use Rattle.replay_ranges.proofs.Waiting.{few_wait}
+use Rattle.replay_ranges.proofs.Waiting.{FewWait}
 
 -- ---- packets that wait
 
@@ -234,20 +234,20 @@ left_few : (n ssrc : ℕ) (b : Bool) → total (weight n) (if b then Left ssrc �
 left_few n ssrc true = omega arith
 left_few n ssrc false = omega arith
 
-ask_few : (n : ℕ) (s : Setting) (before : List Ask) (ask : Ask) → s.probation ≤ 16 → total (weight n) (ask_notes s before ask) ≤ asked n ask
-ask_few n s before (Hears now from view rate) small = packet_few n (waiting s view.ssrc before) (kept_at now view) (answer s before now from view rate) (few_wait s view.ssrc before small)
-ask_few n s before (Names ssrc text) small = name_few n ssrc text (named (table s before) ssrc text)
-ask_few n s before (Reports now ssrc seconds fraction rtp) small = report_few n ssrc (ntp_time seconds fraction) rtp (is_some (kept (table s before) ssrc))
-ask_few n s before (Leaves ssrc) small = left_few n ssrc (is_some (kept (table s before) ssrc))
-ask_few n s before (Closes now timeout) small =
+ask_few : (n : ℕ) (s : Setting) (before : List Ask) (ask : Ask) → FewWait → s.probation ≤ 16 → total (weight n) (ask_notes s before ask) ≤ asked n ask
+ask_few n s before (Hears now from view rate) few small = packet_few n (waiting s view.ssrc before) (kept_at now view) (answer s before now from view rate) (few s view.ssrc before small)
+ask_few n s before (Names ssrc text) few small = name_few n ssrc text (named (table s before) ssrc text)
+ask_few n s before (Reports now ssrc seconds fraction rtp) few small = report_few n ssrc (ntp_time seconds fraction) rtp (is_some (kept (table s before) ssrc))
+ask_few n s before (Leaves ssrc) few small = left_few n ssrc (is_some (kept (table s before) ssrc))
+ask_few n s before (Closes now timeout) few small =
     let ssrcs : List ℕ = gone (table s before) now timeout in
     let bytes : List ℕ = report_bytes s.own (blocks (expired (table s before) now timeout) now) in
     omega (arith, total_append (weight n) (map Gone ssrcs) (Says bytes ∷ []), total_map (weight n) Gone ssrcs, total_zero (λ x. weight n (Gone x)) (λ x. refl) ssrcs)
 
-along_few : (n : ℕ) (s : Setting) (before more : List Ask) → s.probation ≤ 16 → total (weight n) (notes_along s before more) ≤ total (asked n) more
-along_few n s before [] small = omega arith
-along_few n s before (ask ∷ more) small =
-    omega (arith, total_append (weight n) (ask_notes s before ask) (notes_along s (ask ∷ before) more), ask_few n s before ask small, along_few n s (ask ∷ before) more small)
+along_few : (n : ℕ) (s : Setting) (before more : List Ask) → FewWait → s.probation ≤ 16 → total (weight n) (notes_along s before more) ≤ total (asked n) more
+along_few n s before [] few small = omega arith
+along_few n s before (ask ∷ more) few small =
+    omega (arith, total_append (weight n) (ask_notes s before ask) (notes_along s (ask ∷ before) more), ask_few n s before ask few small, along_few n s (ask ∷ before) more few small)
 
 abbrev sender : ℕ → RtcpPacket → ℕ
 sender n (packet.Sr ssrc seconds fraction rtp packets octets blocks rest) = n
@@ -306,8 +306,8 @@ given_few n (Rtcp now packets) =
     )
 given_few n (Report now timeout) = omega arith
 
-pub notes_few : (n : ℕ) (s : Setting) (older : List Given) (g : Given) → s.probation ≤ 16 → total (weight n) (notes s older g) ≤ most n g
-notes_few n s older g small = omega (arith, along_few n s (asks older) (asks_of g) small, given_few n g)
+pub notes_few : (n : ℕ) (s : Setting) (older : List Given) (g : Given) → FewWait → s.probation ≤ 16 → total (weight n) (notes s older g) ≤ most n g
+notes_few n s older g few small = omega (arith, along_few n s (asks older) (asks_of g) few small, given_few n g)
 
 no_sender : (p : RtcpPacket) → sender 0 p ≡ 0
 no_sender (packet.Sr ssrc seconds fraction rtp packets octets blocks rest) = refl

@@ -1,8 +1,9 @@
 -- The steps of a front are in their ranges, and few of them give packets.
-use Rattle.std.proofs.Common.{ℕ, ◌≡◌, ◌+◌, ◌*◌, ◌≤◌, ◌<◌, ◌^◌, Bool, true, false, cond, refl, subst, List, [], ◌∷◌, ◌++◌, Option, None, Some, length, arith}
+use Rattle.std.proofs.Common.{ℕ, ◌≡◌, ◌+◌, ◌*◌, ◌≤◌, ◌<◌, ◌^◌, Bool, true, false, cond, refl, sym, ap, subst, ◌∙◌, List, [], ◌∷◌, ◌++◌, Option, None, Some, length, arith}
 use Rattle.std.specs.Prelude.{if◌then◌else◌, ◌&&◌, reverse, filter, filter_map, flat_map, option_to_list}
-use Rattle.std.specs.List.{AllByRecursion, list_all}
+use Rattle.std.specs.List.{AllByRecursion, list_all, cons_option}
 use Rattle.std.proofs.lemmas.Bool.{and_parts}
+use Rattle.std.proofs.lemmas.List.{append_assoc, reverse-append}
 use Rattle.rtp_wire.specs.Packet.{Packet as View}
 use Rattle.rtp_demux.specs.declared.lanes.LaneOf.{LaneOf}
 use Rattle.rtp_demux.specs.declared.lanes.LaneOf.TheVariants as lane
@@ -28,11 +29,11 @@ use Rattle.front_model.specs.Types.{rate, is_rtx}
 use Rattle.front_model.specs.Lanes.{route, lanes}
 use Rattle.front_model.specs.Fates.{Fate, Dropped, Goes, Way, is_way, way_to, way_of, ways, fate, count}
 use Rattle.front_model.specs.Steps.{route_steps, lane_steps, stream_steps, way_steps, fate_steps, sync_steps, note_steps, notes_steps, session_steps, bad_steps, record_steps, report_time_steps, steps, all_steps}
-use Rattle.front_model.proofs.Counting.{moved}
 use Rattle.replay_model.specs.Fitting.{AreComing, given}
 use Rattle.replay_ranges.specs.Ranges.{AreRanged}
 use Rattle.replay_ranges.proofs.Lists.{each_filter, total}
 use Rattle.replay_ranges.proofs.Views.{IsHolding, within, holding_held}
+use Rattle.replay_ranges.proofs.Waiting.{FewWait}
 use Rattle.replay_ranges.proofs.Notes.{IsNote, IsGiven, notes_each, given_each, weight, most, notes_few, no_packets, few_reports}
 use Rattle.replay_ranges.proofs.Fates.{IsFate, fated}
 
@@ -42,12 +43,13 @@ pub record Fits (c : Contents) : Type 0 where
   pub sessions : list_all session_fits c.sessions ≡ true
   pub rtx : list_all rtx_fits c.rtx ≡ true
   pub probation : c.settings.probation ≤ 16
+  pub wait : FewWait
 
 rest : (a b : Bool) → (a && b) ≡ true → b ≡ true
 rest a b h = (and_parts a b h).1
 
-pub script_fits : (c : Contents) → IsScript c → Fits c
-script_fits c h =
+pub script_fits : (c : Contents) → FewWait → IsScript c → Fits c
+script_fits c wait h =
     let s : ScriptSettings = c.settings in
     let own : is_within 0 16 c.settings.probation ≡ true =
     (and_parts _ _
@@ -58,7 +60,7 @@ script_fits c h =
     (rest (is_time_within 1 60000 s.rtx_retry) _
     (rest (is_time_within 0 60000 s.rtx_delay) _
     (rest (is_time_within 0 600000 s.latency) _ h.settings_fit)))))))).0 in
-    record { sessions = h.sessions_fit; rtx = h.rtx_fit; probation = (within 0 16 c.settings.probation own).1 }
+    record { sessions = h.sessions_fit; rtx = h.rtx_fit; probation = (within 0 16 c.settings.probation own).1; wait = wait }
 
 -- ---- how often a pusher gave a lane something
 
@@ -92,24 +94,29 @@ note_counts c older way session (Left ssrc) = omega arith
 note_counts c older way session (Gone ssrc) = omega arith
 note_counts c older way session (Says bytes) = omega arith
 
+-- the moves of a session, one after the other
+moved : (o : Option Move) (ms older : List Move) → reverse ms ++ (option_to_list o ++ older) ≡ reverse (cons_option o ms) ++ older
+moved None ms older = refl
+moved (Some m) ms older = sym (append_assoc (reverse ms) (m ∷ []) older) ∙ ap (λ (l : List Move). l ++ older) (sym (reverse-append (m ∷ []) ms))
+
 notes_counts : (c : Contents) (older : List Move) (way : Way) (session : ℕ) (ns : List Note) → count c (reverse (filter_map (move_of session) ns) ++ older) way ≤ count c older way + total (weight 1) ns
 notes_counts c older way session [] = omega arith
 notes_counts c older way session (n ∷ more) =
     let next : List Move = option_to_list (move_of session n) ++ older in
     let rest : count c (reverse (filter_map (move_of session) more) ++ next) way ≤ count c next way + total (weight 1) more = notes_counts c next way session more in
     let all : count c (reverse (filter_map (move_of session) more) ++ next) way ≤ count c older way + total (weight 1) (n ∷ more) = omega (arith, rest, note_counts c older way session n) in
-    subst (λ (ms : List Move). count c ms way ≤ count c older way + total (weight 1) (n ∷ more)) (moved session (move_of session n) (filter_map (move_of session) more) older) all
+    subst (λ (ms : List Move). count c ms way ≤ count c older way + total (weight 1) (n ∷ more)) (moved (move_of session n) (filter_map (move_of session) more) older) all
 
 holding_counts : (c : Contents) (older : List FrontEvent) (time : ℕ) (x : Holding) (way : Way) → Fits c → IsHolding x → count c (reverse (moves_in c older time x) ++ moves c older) way ≤ count c (moves c older) way + 9216
 holding_counts c older time (Packet session from p) way fits h =
     let g : Given = Rtp time from p (rate c session p.pt) in
-    omega (arith, notes_counts c (moves c older) way session (session_notes c older session g), notes_few 1 (setting c session) (given_to c session older) g fits.probation)
+    omega (arith, notes_counts c (moves c older) way session (session_notes c older session g), notes_few 1 (setting c session) (given_to c session older) g fits.wait fits.probation)
 holding_counts c older time (Compound session packets) way fits h =
     let g : Given = Rtcp time packets in
     omega (
       arith,
       notes_counts c (moves c older) way session (session_notes c older session g),
-      notes_few 1 (setting c session) (given_to c session older) g fits.probation,
+      notes_few 1 (setting c session) (given_to c session older) g fits.wait fits.probation,
       few_reports packets,
       h.1,
     )
@@ -193,7 +200,7 @@ session_ranged : (c : Contents) (time : ℕ) (older : List FrontEvent) (session 
     → AreRanged (session_steps c time older session g)
 session_ranged c time older session g fits small coming few le h =
     notes_ranged c time (9216 * records older) (moves c older) session (session_notes c older session g) fits small (λ way. few_counts c older way fits coming)
-    (omega (arith, notes_few 1 (setting c session) (given_to c session older) g fits.probation, le, few))
+    (omega (arith, notes_few 1 (setting c session) (given_to c session older) g fits.wait fits.probation, le, few))
     (notes_each (setting c session) (given_to c session older) g (given_each c session older fits.sessions coming) h)
 
 bad_ranged : (time session : ℕ) (o : Option (Word × ℕ)) → AreRanged (bad_steps time session o)
@@ -226,8 +233,8 @@ event_ranged c older (Came time r) fits h few = record_ranged c time older (hold
 event_ranged c older (ReportsDue time) fits h few = due_ranged c time older (sessions c) fits h.1 few (small_sessions c)
 event_ranged c older (Requested r) fits h few = tt
 
-pub stay_in_range : (c : Contents) (older : List FrontEvent) (e : FrontEvent) → IsScript c → AreComing (e ∷ older) → records (e ∷ older) ≤ 100000000 → AreRanged (steps c older e)
-stay_in_range c older e script h few = event_ranged c older e (script_fits c script) h few
+pub stay_in_range : FewWait → (c : Contents) (older : List FrontEvent) (e : FrontEvent) → IsScript c → AreComing (e ∷ older) → records (e ∷ older) ≤ 100000000 → AreRanged (steps c older e)
+stay_in_range wait c older e script h few = event_ranged c older e (script_fits c wait script) h few
 
 -- ---- how many packets are given
 
@@ -295,7 +302,7 @@ notes_given c time older session (n ∷ more) =
 
 session_given : (c : Contents) (time : ℕ) (older : List FrontEvent) (session : ℕ) (g : Given) → Fits c → given (session_steps c time older session g) ≤ most 0 g
 session_given c time older session g fits =
-    omega (arith, notes_given c time (moves c older) session (session_notes c older session g), notes_few 0 (setting c session) (given_to c session older) g fits.probation)
+    omega (arith, notes_given c time (moves c older) session (session_notes c older session g), notes_few 0 (setting c session) (given_to c session older) g fits.wait fits.probation)
 
 bad_given : (time session : ℕ) (o : Option (Word × ℕ)) → given (bad_steps time session o) ≡ 0
 bad_given time session None = refl
@@ -326,5 +333,5 @@ few_given c (ReportsDue time ∷ older) fits =
     omega (arith, given_append (all_steps c older) (steps c older (ReportsDue time)), due_given c time older (sessions c) fits, few_given c older fits)
 few_given c (Requested r ∷ older) fits = omega (arith, given_append (all_steps c older) (steps c older (Requested r)), few_given c older fits)
 
-pub are_few : (c : Contents) (events : List FrontEvent) → IsScript c → AreComing events → given (all_steps c events) ≤ 16 * records events
-are_few c events script h = few_given c events (script_fits c script)
+pub are_few : FewWait → (c : Contents) (events : List FrontEvent) → IsScript c → AreComing events → given (all_steps c events) ≤ 16 * records events
+are_few wait c events script h = few_given c events (script_fits c wait script)

@@ -24,9 +24,7 @@ use Rattle.source_table.specs.Sources.{fresh, is_enough, answer_from, hear_answe
 use Rattle.source_table.specs.Table.{Table, kept, needed, packet_of, changed_by}
 use Rattle.front_model.specs.Given.{Setting, Ask, Hears, Names, Reports, Leaves, Closes, is_quick, table}
 use Rattle.front_model.specs.Probation.{Kept, kept_at, waiting_next, is_removed, waiting}
-use Rattle.front_model.specs.Laws.{concerns, IsAlike}
-use Rattle.front_model.proofs.Others.{untouched}
-use Rattle.front_model.proofs.Closing.{closed}
+use Rattle.front_model.specs.Laws.{concerns, IsAlike, IsLeftByOthers, IsClosedAlone}
 
 -- Before a source is valid no more packets of it wait than its run has, and that has at most 15.
 abbrev Waits : Option Counts → Run → List Kept → Type 0
@@ -175,12 +173,6 @@ alike_waits s ssrc here there e h =
     let one : WaitsOf (kept (table s here) ssrc) (waiting s ssrc there) = subst (λ (o : Option Source). WaitsOf o (waiting s ssrc there)) (sym e.source) h in
     subst (λ (ks : List Kept). WaitsOf (kept (table s here) ssrc) ks) (sym e.waiting) one
 
--- a call about one source
-about : (s : Setting) (ssrc x : ℕ) (ask : Ask) (before : List Ask) (b : Bool) → nat_eq ssrc x ≡ b → concerns ssrc ask ≡ nat_eq ssrc x
-    → WaitsAt s (ask ∷ before) x → WaitsAt s before ssrc → WaitsAt s (ask ∷ before) ssrc
-about s ssrc x ask before true e is own h = subst (WaitsAt s (ask ∷ before)) (sym (eqb-true ssrc x e)) own
-about s ssrc x ask before false e is own h = alike_waits s ssrc (ask ∷ before) before (untouched s ssrc ask before (is ∙ e)) h
-
 hears_waits : (s : Setting) (now : ℕ) (from : Address) (view : View) (rate : Option ℕ) (before : List Ask) → s.probation ≤ 16 → WaitsAt s before view.ssrc
     → WaitsAt s (Hears now from view rate ∷ before) view.ssrc
 hears_waits s now from view rate before small h =
@@ -203,26 +195,6 @@ left_waits : (o : Option Source) (ks : List Kept) → WaitsOf o ks → WaitsOf (
 left_waits None ks h = h
 left_waits (Some x) ks h = h
 
-waits : (s : Setting) (ssrc : ℕ) (asks : List Ask) → s.probation ≤ 16 → WaitsAt s asks ssrc
-waits s ssrc [] small = omega arith
-waits s ssrc (Hears now from view rate ∷ before) small =
-    about s ssrc view.ssrc (Hears now from view rate) before (nat_eq ssrc view.ssrc) refl refl (hears_waits s now from view rate before small (waits s view.ssrc before small)) (waits s ssrc before small)
-waits s ssrc (Names x text ∷ before) small =
-    subst (λ (o : Option Source). WaitsOf o (waiting s ssrc before)) (sym (source_name (table s before) ssrc x text (named (table s before) x text))) (waits s ssrc before small)
-waits s ssrc (Reports now x seconds fraction rtp ∷ before) small =
-    about s ssrc x (Reports now x seconds fraction rtp) before (nat_eq ssrc x) refl refl
-    (subst (λ (o : Option Source). WaitsOf o (waiting s x before)) (sym (source_change (table s before) x (kept (table s before) x) (λ y. report_next y now seconds fraction) refl))
-    (report_waits now seconds fraction (kept (table s before) x) (waiting s x before) (waits s x before small)))
-    (waits s ssrc before small)
-waits s ssrc (Leaves x ∷ before) small =
-    about s ssrc x (Leaves x) before (nat_eq ssrc x) refl refl
-    (subst (λ (o : Option Source). WaitsOf o (waiting s x before)) (sym (source_change (table s before) x (kept (table s before) x) left_next refl))
-    (left_waits (kept (table s before) x) (waiting s x before) (waits s x before small)))
-    (waits s ssrc before small)
-waits s ssrc (Closes now timeout ∷ before) small =
-    subst (λ (o : Option Source). WaitsOf o (waiting s ssrc (Closes now timeout ∷ before))) (sym (closed s before now timeout ssrc))
-    (closes_waits now timeout (kept (table s before) ssrc) (waiting s ssrc before) (waits s ssrc before small))
-
 few_by : (o : Option Counts) (run : Run) (ks : List Kept) → Waits o run ks → length ks ≤ 15
 few_by None run ks h = omega (arith, h.0, h.1)
 few_by (Some c) run ks h = omega (arith, h)
@@ -231,5 +203,37 @@ few_of : (o : Option Source) (ks : List Kept) → WaitsOf o ks → length ks ≤
 few_of None ks h = omega (arith, h)
 few_of (Some x) ks h = few_by x.counts x.run ks h
 
-pub few_wait : (s : Setting) (ssrc : ℕ) (asks : List Ask) → s.probation ≤ 16 → length (waiting s ssrc asks) ≤ 15
-few_wait s ssrc asks small = few_of (kept (table s asks) ssrc) (waiting s ssrc asks) (waits s ssrc asks small)
+-- at most 15 packets of any source
+abbrev pub FewWait : Type 0
+FewWait = (s : Setting) (ssrc : ℕ) (asks : List Ask) → s.probation ≤ 16 → length (waiting s ssrc asks) ≤ 15
+
+-- By the laws of a source among others.
+module _ (untouched : IsLeftByOthers) (closed : IsClosedAlone) where
+  -- a call about one source
+  about : (s : Setting) (ssrc x : ℕ) (ask : Ask) (before : List Ask) (b : Bool) → nat_eq ssrc x ≡ b → concerns ssrc ask ≡ nat_eq ssrc x
+      → WaitsAt s (ask ∷ before) x → WaitsAt s before ssrc → WaitsAt s (ask ∷ before) ssrc
+  about s ssrc x ask before true e is own h = subst (WaitsAt s (ask ∷ before)) (sym (eqb-true ssrc x e)) own
+  about s ssrc x ask before false e is own h = alike_waits s ssrc (ask ∷ before) before (untouched s ssrc ask before (is ∙ e)) h
+
+  waits : (s : Setting) (ssrc : ℕ) (asks : List Ask) → s.probation ≤ 16 → WaitsAt s asks ssrc
+  waits s ssrc [] small = omega arith
+  waits s ssrc (Hears now from view rate ∷ before) small =
+      about s ssrc view.ssrc (Hears now from view rate) before (nat_eq ssrc view.ssrc) refl refl (hears_waits s now from view rate before small (waits s view.ssrc before small)) (waits s ssrc before small)
+  waits s ssrc (Names x text ∷ before) small =
+      subst (λ (o : Option Source). WaitsOf o (waiting s ssrc before)) (sym (source_name (table s before) ssrc x text (named (table s before) x text))) (waits s ssrc before small)
+  waits s ssrc (Reports now x seconds fraction rtp ∷ before) small =
+      about s ssrc x (Reports now x seconds fraction rtp) before (nat_eq ssrc x) refl refl
+      (subst (λ (o : Option Source). WaitsOf o (waiting s x before)) (sym (source_change (table s before) x (kept (table s before) x) (λ y. report_next y now seconds fraction) refl))
+      (report_waits now seconds fraction (kept (table s before) x) (waiting s x before) (waits s x before small)))
+      (waits s ssrc before small)
+  waits s ssrc (Leaves x ∷ before) small =
+      about s ssrc x (Leaves x) before (nat_eq ssrc x) refl refl
+      (subst (λ (o : Option Source). WaitsOf o (waiting s x before)) (sym (source_change (table s before) x (kept (table s before) x) left_next refl))
+      (left_waits (kept (table s before) x) (waiting s x before) (waits s x before small)))
+      (waits s ssrc before small)
+  waits s ssrc (Closes now timeout ∷ before) small =
+      subst (λ (o : Option Source). WaitsOf o (waiting s ssrc (Closes now timeout ∷ before))) (sym (closed s before now timeout ssrc))
+      (closes_waits now timeout (kept (table s before) ssrc) (waiting s ssrc before) (waits s ssrc before small))
+
+  pub few_wait : FewWait
+  few_wait s ssrc asks small = few_of (kept (table s asks) ssrc) (waiting s ssrc asks) (waits s ssrc asks small)

@@ -1,5 +1,5 @@
 -- The records of a capture are of bytes, early, and few.
-use Rattle.std.proofs.Common.{ℕ, zero, suc, ◌+◌, ◌*◌, ◌≤◌, ◌<◌, ◌^◌, Bool, true, false, List, [], ◌∷◌, length, take, drop, Some, Result, Ok, Err, arith}
+use Rattle.std.proofs.Common.{ℕ, zero, suc, ◌≡◌, refl, ◌+◌, ◌*◌, ◌≤◌, ◌<◌, ◌^◌, Bool, true, false, List, [], ◌∷◌, length, take, drop, Some, Result, Ok, Err, arith}
 use Rattle.std.specs.Prelude.{All, slice_index, nat_lt, nat_le, ◌==◌, if◌then◌else◌}
 use Rattle.std.proofs.lemmas.Bool.{leb-false}
 use Rattle.std.proofs.lemmas.List.Elements.{All-nil, All-cons, All-head, All-tail, All-drop, All-take}
@@ -11,8 +11,15 @@ use Rattle.pcap_file.specs.declared.fault.CaptureFault.{CaptureFault}
 use Rattle.pcap_file.specs.declared.fault.CaptureFault.TheVariants.{CutHeader, TooMany, CutRecord, Length, Fraction}
 use Rattle.pcap_file.specs.Numbers.{number_at}
 use Rattle.pcap_file.specs.Capture.{Record, Capture, format_of, fraction_limit, fraction_unit, record_of, Head, AtEnd, AtFault, AtRecord, head, empty, step_from, walk, records_from, behind_header, capture_of}
-use Rattle.replay_ranges.proofs.Bytes.{IsByte, pick}
 use Rattle.replay_sound.specs.Stamped.{IsStamped, AreStamped}
+
+abbrev IsByte : ℕ → Type 0
+IsByte b = b < 256
+
+-- what holds of both holds of the one that is picked
+pick : {A : Type 0} (P : A → Type 0) (b : Bool) (x y : A) → (b ≡ true → P x) → (b ≡ false → P y) → P (if b then x else y)
+pick P true x y f g = f refl
+pick P false x y f g = g refl
 
 -- ---- a record
 

@@ -15,10 +15,14 @@ use Rattle.script_lang.specs.declared.script.Action.TheVariants as action
 use Rattle.timeline.specs.Times.{Timed, first_stamp, greatest_since, at_times_after, at_times}
 use Rattle.replay_model.specs.Inputs.{Input, OfCapture, OfScript, items_to, items_behind, inputs, items_left, all_inputs, records_in}
 use Rattle.replay_model.specs.Fitting.{IsCaptured, IsAction, IsItem, IsInput, IsReplay}
-use Rattle.replay_model.proofs.Passing.{records_part, records_all}
-use Rattle.replay_ranges.proofs.Lists.{each_append, each_map}
 use Rattle.replay_sound.specs.Stamped.{IsStamped, AreStamped}
 use Rattle.replay_sound.proofs.Choosing.{time_within, valid_settings}
+
+-- ---- what holds of each element of a list
+
+each_append : {A : Type 0} (P : A → Type 0) (xs ys : List A) → AllByRecursion P xs → AllByRecursion P ys → AllByRecursion P (xs ++ ys)
+each_append P [] ys h k = k
+each_append P (x ∷ xs) ys h k = (h.0, each_append P xs ys h.1 k)
 
 -- ---- records at their times
 
@@ -73,7 +77,8 @@ each_behind t [] h = tt
 each_behind t (i ∷ is) h = each_picked (nat_le i.time t) (items_behind t is) (i ∷ is) (each_behind t is h.1) h
 
 of_script : (is : List Item) → AllByRecursion IsItem is → AllByRecursion IsInput (map OfScript is)
-of_script is h = each_map IsInput IsItem OfScript (λ i fits. fits) is h
+of_script [] h = tt
+of_script (i ∷ is) h = (h.0, of_script is h.1)
 
 each_input : (is : List Item) (rs : List Timed) → AllByRecursion IsItem is → AllByRecursion IsTimed rs → AllByRecursion IsInput (inputs is rs)
 each_input is [] h k = tt
@@ -87,6 +92,11 @@ each_left is (r ∷ rs) h = each_left (items_behind r.time is) rs (each_behind r
 
 -- ---- a replay
 
+-- All records come, each once and in their order, with the items behind the last and without.
+pub record AllCome : Type 0 where
+  pub part : (items : List Item) (rs : List Timed) → records_in (inputs items rs) ≡ rs
+  pub whole : (items : List Item) (rs : List Timed) → records_in (all_inputs items rs) ≡ rs
+
 of_records : (c : Contents) (rs : List Record) (xs : List Input) → IsScript c → length rs ≤ 100000000 → records_in xs ≡ at_times rs → AllByRecursion IsInput xs → IsReplay c xs
 of_records c rs xs script few are each =
     record {
@@ -98,16 +108,16 @@ of_records c rs xs script few are each =
 stamped_times : (rs : List Record) → All IsStamped rs → AllByRecursion IsTimed (at_times rs)
 stamped_times rs h = times_early [] rs tt (recursion_from_All IsStamped rs h)
 
-pub whole_replay : (c : Contents) (rs : List Record) → IsScript c → AreStamped rs → IsReplay c (all_inputs c.items (at_times rs))
-whole_replay c rs script h =
+pub whole_replay : AllCome → (c : Contents) (rs : List Record) → IsScript c → AreStamped rs → IsReplay c (all_inputs c.items (at_times rs))
+whole_replay come c rs script h =
     let items = items_fitting c.items script.items_fit in
-    of_records c rs (all_inputs c.items (at_times rs)) script h.few (records_all c.items (at_times rs))
+    of_records c rs (all_inputs c.items (at_times rs)) script h.few (come.whole c.items (at_times rs))
     (each_append IsInput (inputs c.items (at_times rs)) (map OfScript (items_left c.items (at_times rs))) (each_input c.items (at_times rs) items (stamped_times rs h.each))
     (of_script (items_left c.items (at_times rs)) (each_left c.items (at_times rs) items)))
 
-pub part_replay : (c : Contents) (rs : List Record) → IsScript c → AreStamped rs → IsReplay c (inputs c.items (at_times rs))
-part_replay c rs script h =
-    of_records c rs (inputs c.items (at_times rs)) script h.few (records_part c.items (at_times rs))
+pub part_replay : AllCome → (c : Contents) (rs : List Record) → IsScript c → AreStamped rs → IsReplay c (inputs c.items (at_times rs))
+part_replay come c rs script h =
+    of_records c rs (inputs c.items (at_times rs)) script h.few (come.part c.items (at_times rs))
     (each_input c.items (at_times rs) (items_fitting c.items script.items_fit) (stamped_times rs h.each))
 
 -- the first records of such

@@ -9,3 +9,4 @@ pub mod Holding
 pub mod Moving
 pub mod Stepping
 pub mod Typing
+pub mod Alone

@@ -9,6 +9,7 @@
 mod choices;
 mod front;
 mod intake;
+pub mod laws;
 mod notes;
 mod reports;
 mod requests;

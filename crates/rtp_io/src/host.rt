@@ -6,7 +6,7 @@ use crate::outside::{Failed, Files, Sink};
 use rtp_units::OutOfMemory;
 use std::alloc::Global;
 use std::fs::File;
-use std::io::{BufWriter, Read, Stderr, Stdin, Stdout, Write};
+use std::io::{BufWriter, IsTerminal, Read, Stderr, Stdin, Stdout, Write};
 
 /// How many bytes of output are gathered before they are written.
 const OUTPUT_BYTES: usize = 65_536;
@@ -81,7 +81,8 @@ impl Files for HostFiles<'_> {
 /// Which stream of the process a sink writes to.
 #[derive(Clone, Copy, Debug, PartialEq, Eq)]
 pub enum Stream {
-    /// Standard output. Its bytes are gathered, and written many lines at a time.
+    /// Standard output. Its bytes are gathered, and written many lines at a time; on a terminal each
+    /// piece is written at once, so that an error text stands behind the lines before it.
     Output,
     /// Standard error. Its bytes are written at once.
     Errors,
@@ -133,7 +134,12 @@ impl HostSink {
 }
 
 fn gathered(alloc: Global, output: Stdout) -> Result<BufWriter<Stdout>, OutOfMemory> {
-    match BufWriter::with_capacity(alloc, OUTPUT_BYTES, output) {
+    let room = if output.is_terminal() {
+        0
+    } else {
+        OUTPUT_BYTES
+    };
+    match BufWriter::with_capacity(alloc, room, output) {
         Ok(writer) => Ok(writer),
         Err(_) => Err(OutOfMemory),
     }

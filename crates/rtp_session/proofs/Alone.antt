@@ -1,24 +1,16 @@
 -- What a session tells of one source hangs on what is about it.
-use Rattle.std.proofs.Common.{◌≡◌, ℕ, ◌+◌, Bool, true, false, cond, List, [], ◌∷◌, ◌++◌, reverse, length, Option, Some, None, refl, sym, ap, ◌∙◌, subst, eqb-true, arith}
-use Rattle.std.specs.Prelude.{nat_eq, nat_lt, filter, is_some}
+use Rattle.std.proofs.Common.{◌≡◌, ℕ, ◌+◌, Bool, true, false, cond, List, [], ◌∷◌, ◌++◌, reverse, Some, refl, sym, ap, ◌∙◌, subst, eqb-true}
+use Rattle.std.specs.Prelude.{nat_eq, is_some}
 use Rattle.std.specs.List.{AllByRecursion}
-use Rattle.std.specs.Map.{lookup}
-use Rattle.std.proofs.lemmas.Bool.{false≢true}
 use Rattle.rtp_units.specs.Numbers.{ntp_time}
-use Rattle.rtp_units.specs.declared.shared.Address.{Address}
-use Rattle.rtp_wire.specs.Packet.{Packet as View}
-use Rattle.rtcp_wire.specs.declared.packet.Rtcp.{Rtcp as RtcpPacket}
-use Rattle.indexmap.specs.IndexMap.{insert_entry}
-use Rattle.source_table.specs.declared.source.Source.{Source}
 use Rattle.source_table.specs.declared.answers.Named.{Named}
 use Rattle.source_table.specs.declared.answers.Named.TheVariants.{Unknown, Same, Changed}
-use Rattle.source_table.specs.Answers.{named, name_next_by}
-use Rattle.source_table.specs.Sources.{report_next, left_next}
-use Rattle.source_table.specs.Table.{Table, kept, changed_by}
-use Rattle.front_model.specs.Given.{Setting, Given, Rtp, Rtcp, Ask, Hears, Names, Reports, Leaves, Closes, asks_of, asks, table}
-use Rattle.front_model.specs.Notes.{Note, Synced, Stray, Left, name_notes, ask_notes, notes_along, notes}
-use Rattle.front_model.specs.Laws.{concerns, subject, IsAlike, has_room, IsLeftByOthers, HangsOnItsOwn}
-use Rattle.rtp_session.specs.Laws.{is_about, told_of, IsApart, IsLeftAlone, IsPacketToldAlone, IsCompoundToldAlone}
+use Rattle.source_table.specs.Answers.{named}
+use Rattle.source_table.specs.Table.{kept}
+use Rattle.front_model.specs.Given.{Setting, Rtcp, Ask, Hears, Names, Reports, Leaves, Closes, asks_of, asks, table}
+use Rattle.front_model.specs.Notes.{Note, Synced, Stray, Left, name_notes, ask_notes, notes_along}
+use Rattle.front_model.specs.Laws.{concerns, subject, IsAlike, IsTakenAlike, IsLeftByOthers, HangsOnItsOwn}
+use Rattle.rtp_session.specs.Laws.{is_about, told_of, IsLeftAlone, IsPacketToldAlone, IsCompoundToldAlone}
 use Rattle.rtp_session.proofs.Keeping.{IsTalk, AllTalk, turns, compound_talks}
 
 same : (s : Setting) (ssrc : ℕ) (xs : List Ask) → IsAlike s ssrc xs xs
@@ -48,33 +40,14 @@ packet_alone own s now from view rate here there alike room =
     let told = own s view.ssrc (Hears now from view rate) (asks here) (asks there) refl alike room in
     (ap (λ (ns : List Note). ns ++ []) told.0, told.1)
 
--- ---- the calls of a compound leave the count of sources
+-- ---- the calls of a compound take in no source
 
-put_by : (b : Bool) (e : ℕ × Source) (v x : Source) (k : ℕ) (es ins : List (ℕ × Source)) → cond b (Some e.1) (lookup (nat_eq k) es) ≡ Some x → (lookup (nat_eq k) es ≡ Some x → length ins ≡ length es)
-    → length (cond b ((e.0, v) ∷ es) (e ∷ ins)) ≡ length (e ∷ es)
-put_by true e v x k es ins there rest = refl
-put_by false e v x k es ins there rest = let r : length ins ≡ length es = rest there in omega (arith, r)
-
-put_length : (es : List (ℕ × Source)) (k : ℕ) (v x : Source) → lookup (nat_eq k) es ≡ Some x → length (insert_entry nat_eq es k v) ≡ length es
-put_length [] k v x there = absurd cc
-put_length (e ∷ es) k v x there = put_by (nat_eq k e.0) e v x k es (insert_entry nat_eq es k v) there (put_length es k v x)
-
-changed_length : (t : Table) (ssrc : ℕ) (o : Option Source) (f : Source → Source) → kept t ssrc ≡ o → length (changed_by t ssrc o f).sources ≡ length t.sources
-changed_length t ssrc None f e = refl
-changed_length t ssrc (Some x) f e = put_length t.sources ssrc (f x) x e
-
-named_length : (t : Table) (ssrc : ℕ) (text : List ℕ) (n : Named) → length (name_next_by t ssrc text n).sources ≡ length t.sources
-named_length t ssrc text Changed = refl
-named_length t ssrc text Same = refl
-named_length t ssrc text Unknown = refl
-
-room_stays : (s : Setting) (before : List Ask) (call : Ask) → IsTalk call → has_room s (call ∷ before) ≡ has_room s before
-room_stays s before (Names ssrc text) h = ap (λ (n : ℕ). nat_lt n 64) (named_length (table s before) ssrc text (named (table s before) ssrc text))
-room_stays s before (Reports now ssrc seconds fraction rtp) h =
-    ap (λ (n : ℕ). nat_lt n 64) (changed_length (table s before) ssrc (kept (table s before) ssrc) (λ x. report_next x now seconds fraction) refl)
-room_stays s before (Leaves ssrc) h = ap (λ (n : ℕ). nat_lt n 64) (changed_length (table s before) ssrc (kept (table s before) ssrc) left_next refl)
-room_stays s before (Hears now from view rate) h = absurd h
-room_stays s before (Closes now timeout) h = absurd h
+taken : (s : Setting) (call : Ask) (here there : List Ask) → IsTalk call → IsTakenAlike s call here there
+taken s (Names ssrc text) here there h = tt
+taken s (Reports now ssrc seconds fraction rtp) here there h = tt
+taken s (Leaves ssrc) here there h = tt
+taken s (Hears now from view rate) here there h = absurd h
+taken s (Closes now timeout) here there h = absurd h
 
 -- ---- what a call about another SSRC tells
 
@@ -111,11 +84,11 @@ abbrev Alike : Setting → ℕ → Ask → List Ask → List Ask → Type 0
 Alike s ssrc call here there = (told_of ssrc (ask_notes s here call) ≡ told_of ssrc (ask_notes s there call)) × IsAlike s ssrc (call ∷ here) (call ∷ there)
 
 one_alone : IsLeftByOthers → HangsOnItsOwn → (b : Bool) (s : Setting) (ssrc : ℕ) (call : Ask) (here there : List Ask) → concerns ssrc call ≡ b → IsTalk call → IsAlike s ssrc here there
-    → has_room s here ≡ has_room s there → Alike s ssrc call here there
-one_alone others own true s ssrc call here there e talk alike room =
-    let told = own s ssrc call here there (own_subject ssrc call talk e) alike room in
+    → Alike s ssrc call here there
+one_alone others own true s ssrc call here there e talk alike =
+    let told = own s ssrc call here there (own_subject ssrc call talk e) alike (taken s call here there talk) in
     (ap (told_of ssrc) told.0, told.1)
-one_alone others own false s ssrc call here there e talk alike room = (
+one_alone others own false s ssrc call here there e talk alike = (
   apart_told s ssrc here call talk e ∙ sym (apart_told s ssrc there call talk e),
   both s ssrc (call ∷ here) here (call ∷ there) (others s ssrc call here e) (both s ssrc here there (call ∷ there) alike (back s ssrc (call ∷ there) there (others s ssrc call there e))),
 )
@@ -129,17 +102,17 @@ told_joined ssrc [] ns = refl
 told_joined ssrc (m ∷ ms) ns =
     ap (λ (l : List Note). cond (is_about ssrc m) (m ∷ l) l) (told_joined ssrc ms ns) ∙ joined_if (is_about ssrc m) m (told_of ssrc ms) (told_of ssrc ns)
 
-all_alone : IsLeftByOthers → HangsOnItsOwn → (s : Setting) (ssrc : ℕ) (calls here there : List Ask) → AllTalk calls → IsAlike s ssrc here there → has_room s here ≡ has_room s there
+all_alone : IsLeftByOthers → HangsOnItsOwn → (s : Setting) (ssrc : ℕ) (calls here there : List Ask) → AllTalk calls → IsAlike s ssrc here there
     → (told_of ssrc (notes_along s here calls) ≡ told_of ssrc (notes_along s there calls)) × IsAlike s ssrc (reverse calls ++ here) (reverse calls ++ there)
-all_alone others own s ssrc [] here there talk alike room = (refl, alike)
-all_alone others own s ssrc (x ∷ xs) here there talk alike room =
-    let one = one_alone others own (concerns ssrc x) s ssrc x here there refl talk.0 alike room in
-    let rest = all_alone others own s ssrc xs (x ∷ here) (x ∷ there) talk.1 one.1 (room_stays s here x talk.0 ∙ room ∙ sym (room_stays s there x talk.0)) in (
+all_alone others own s ssrc [] here there talk alike = (refl, alike)
+all_alone others own s ssrc (x ∷ xs) here there talk alike =
+    let one = one_alone others own (concerns ssrc x) s ssrc x here there refl talk.0 alike in
+    let rest = all_alone others own s ssrc xs (x ∷ here) (x ∷ there) talk.1 one.1 in (
       told_joined ssrc (ask_notes s here x) (notes_along s (x ∷ here) xs) ∙ (λ i. one.0 i ++ rest.0 i) ∙ sym (told_joined ssrc (ask_notes s there x) (notes_along s (x ∷ there) xs)),
       subst (λ (l : List Ask). IsAlike s ssrc l (reverse (x ∷ xs) ++ there)) (sym (turns x xs here))
           (subst (λ (l : List Ask). IsAlike s ssrc (reverse xs ++ x ∷ here) l) (sym (turns x xs there)) rest.1),
     )
 
 pub compound_alone : IsLeftByOthers → HangsOnItsOwn → IsCompoundToldAlone
-compound_alone others own s ssrc now packets here there alike room =
-    all_alone others own s ssrc (asks_of (Rtcp now packets)) (asks here) (asks there) (compound_talks now packets) alike room
+compound_alone others own s ssrc now packets here there alike =
+    all_alone others own s ssrc (asks_of (Rtcp now packets)) (asks here) (asks there) (compound_talks now packets) alike

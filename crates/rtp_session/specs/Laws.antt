@@ -1,10 +1,11 @@
 -- What a session tells of one source.
-use Rattle.std.specs.Prelude.{◌≡◌, ℕ, nat_eq, Bool, false, List, ◌∷◌, filter, Option}
+use Rattle.std.specs.Prelude.{◌≡◌, ℕ, nat_eq, Bool, false, List, ◌∷◌, filter, Option, None}
 use Rattle.std.specs.List.{AllByRecursion}
 use Rattle.rtp_units.specs.declared.shared.Address.{Address}
 use Rattle.rtp_wire.specs.Packet.{Packet as View}
 use Rattle.rtcp_wire.specs.declared.packet.Rtcp.{Rtcp as RtcpPacket}
-use Rattle.front_model.specs.Given.{Setting, Given, Rtp, Rtcp, Report, asks_of, asks}
+use Rattle.source_table.specs.Table.{kept}
+use Rattle.front_model.specs.Given.{Setting, Given, Rtp, Rtcp, Report, asks_of, asks, table}
 use Rattle.front_model.specs.Notes.{Note, Holds, Drops, Releases, NewName, Synced, Stray, Left, Gone, Says, notes}
 use Rattle.front_model.specs.Laws.{concerns, IsAlike, has_room}
 
@@ -33,13 +34,14 @@ IsLeftAlone =
     (s : Setting) (ssrc : ℕ) (g : Given) (older : List Given)
     → IsApart ssrc g → IsAlike s ssrc (asks (g ∷ older)) (asks older)
 
--- Where a source, its name and its waiting packets are alike, and so is whether a new source is taken
--- in, a packet of it is told alike.
+-- Where a source, its name and its waiting packets are alike, a packet of it is told alike; if it is
+-- not kept, where so is whether a new source is taken in.
 abbrev pub IsPacketToldAlone : Type 0
 IsPacketToldAlone =
     (s : Setting) (now : ℕ) (from : Address) (view : View) (rate : Option ℕ) (here there : List Given)
     → IsAlike s view.ssrc (asks here) (asks there)
-    → has_room s (asks here) ≡ has_room s (asks there)
+    → (kept (table s (asks here)) view.ssrc ≡ None
+    → has_room s (asks here) ≡ has_room s (asks there))
     → (notes s here (Rtp now from view rate) ≡ notes s there (Rtp now from view rate))
     × IsAlike s view.ssrc (asks (Rtp now from view rate ∷ here)) (asks (Rtp now from view rate ∷ there))
 
@@ -47,7 +49,7 @@ IsPacketToldAlone =
 abbrev pub IsCompoundToldAlone : Type 0
 IsCompoundToldAlone =
     (s : Setting) (ssrc now : ℕ) (packets : List RtcpPacket) (here there : List Given)
-    → IsAlike s ssrc (asks here) (asks there) → has_room s (asks here) ≡ has_room s (asks there)
+    → IsAlike s ssrc (asks here) (asks there)
     → (told_of ssrc (notes s here (Rtcp now packets)) ≡ told_of ssrc (notes s there (Rtcp now packets)))
     × IsAlike s ssrc (asks (Rtcp now packets ∷ here)) (asks (Rtcp now packets ∷ there))
 

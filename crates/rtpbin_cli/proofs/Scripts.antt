@@ -1,5 +1,5 @@
--- No script begins a capture.
-use Rattle.std.proofs.Common.{◌≡◌, ◌≢◌, ℕ, zero, suc, ◌+◌, ◌*◌, ◌≤◌, ◌<◌, Bool, true, false, List, [], ◌∷◌, length, take, drop, Option, Some, None, Ok, Err, refl, sym, subst, arith, ◌∙◌}
+-- No script begins a capture, no description does, and no settings and timed lines.
+use Rattle.std.proofs.Common.{◌≡◌, ◌≢◌, ℕ, zero, suc, ◌+◌, ◌*◌, ◌<◌, Bool, true, false, List, [], ◌∷◌, length, take, drop, Option, Some, None, Ok, Err, refl, sym, subst, arith, ◌∙◌}
 use Rattle.std.specs.Prelude.{nat_lt, nat_le, nat_eq, ◌==◌, ◌&&◌, ◌||◌, if◌then◌else◌}
 use Rattle.std.specs.List.{starts_with}
 use Rattle.std.proofs.lemmas.Bool.{lt-ltb, lt-leb, eqb-true}
@@ -15,7 +15,7 @@ use Rattle.pcap_file.specs.Capture.{capture_of as capture_of_pcap_bytes, format_
 use Rattle.capture_file.specs.Capture.{capture_of, is_ng}
 use Rattle.script_lang.specs.Contents.{Contents}
 use Rattle.script_lang.specs.Grammar.{read_script}
-use Rattle.rtpbin_cli.proofs.Sections.{no_section}
+use Rattle.sdp_profile.specs.Scripts.{described_script}
 
 -- ---- a file that is no pcapng file
 
@@ -33,13 +33,14 @@ no_pcap_records bytes short = rw (lt-ltb (length bytes) 24 short) refl
 pub no_records : (bytes : List ℕ) → length bytes < 24 → (capture_of bytes).records ≡ []
 no_records bytes short = as_pcap bytes (short_is_pcap bytes short) ∙ no_pcap_records bytes short
 
--- ---- a script without a fault begins no capture
+-- ---- a text that is no capture
 
--- no script has one of these fronts
-pub record BeginsNoCapture : Type 0 where
-  pub big : (xs : List ℕ) (c : Contents) → read_script (161 ∷ xs) ≢ Ok c
-  pub little : (xs : List ℕ) (c : Contents) → read_script (212 ∷ xs) ≢ Ok c
-  pub nano : (xs : List ℕ) (c : Contents) → read_script (77 ∷ 60 ∷ 178 ∷ xs) ≢ Ok c
+-- nothing that is read so has one of these fronts
+pub record BeginsNoCapture (Reads : List ℕ → Type 0) : Type 0 where
+  pub big : (xs : List ℕ) → ¬ Reads (161 ∷ xs)
+  pub little : (xs : List ℕ) → ¬ Reads (212 ∷ xs)
+  pub nano : (xs : List ℕ) → ¬ Reads (77 ∷ 60 ∷ 178 ∷ xs)
+  pub section : (xs : List ℕ) → ¬ Reads (10 ∷ 13 ∷ 13 ∷ 10 ∷ xs)
 
 -- a capture's first bytes, by the four magic numbers and the type of a section header
 pub record BeginsOtherwise (a b c d : ℕ) : Type 0 where
@@ -48,15 +49,15 @@ pub record BeginsOtherwise (a b c d : ℕ) : Type 0 where
   pub nano : a ≡ 77 → b ≡ 60 → c ≢ 178
   pub section : a ≡ 10 → b ≡ 13 → c ≡ 13 → d ≢ 10
 
-begins_otherwise : BeginsNoCapture → (a b c d : ℕ) (xs : List ℕ) (contents : Contents) → read_script (a ∷ b ∷ c ∷ d ∷ xs) ≡ Ok contents → BeginsOtherwise a b c d
-begins_otherwise law a b c d xs contents is = record {
-  big = λ e. law.big (b ∷ c ∷ d ∷ xs) contents (subst (λ (n : ℕ). read_script (n ∷ b ∷ c ∷ d ∷ xs) ≡ Ok contents) e is);
-  little = λ e. law.little (b ∷ c ∷ d ∷ xs) contents (subst (λ (n : ℕ). read_script (n ∷ b ∷ c ∷ d ∷ xs) ≡ Ok contents) e is);
-  nano = λ ea eb ec. law.nano (d ∷ xs) contents (subst (λ (n : ℕ). read_script (77 ∷ 60 ∷ n ∷ d ∷ xs) ≡ Ok contents) ec
-      (subst (λ (n : ℕ). read_script (77 ∷ n ∷ c ∷ d ∷ xs) ≡ Ok contents) eb (subst (λ (n : ℕ). read_script (n ∷ b ∷ c ∷ d ∷ xs) ≡ Ok contents) ea is)));
-  section = λ ea eb ec ed. no_section xs contents (subst (λ (n : ℕ). read_script (10 ∷ 13 ∷ 13 ∷ n ∷ xs) ≡ Ok contents) ed
-      (subst (λ (n : ℕ). read_script (10 ∷ 13 ∷ n ∷ d ∷ xs) ≡ Ok contents) ec
-      (subst (λ (n : ℕ). read_script (10 ∷ n ∷ c ∷ d ∷ xs) ≡ Ok contents) eb (subst (λ (n : ℕ). read_script (n ∷ b ∷ c ∷ d ∷ xs) ≡ Ok contents) ea is))));
+begins_otherwise : (Reads : List ℕ → Type 0) → BeginsNoCapture Reads → (a b c d : ℕ) (xs : List ℕ) → Reads (a ∷ b ∷ c ∷ d ∷ xs) → BeginsOtherwise a b c d
+begins_otherwise Reads law a b c d xs is = record {
+  big = λ e. law.big (b ∷ c ∷ d ∷ xs) (subst (λ (n : ℕ). Reads (n ∷ b ∷ c ∷ d ∷ xs)) e is);
+  little = λ e. law.little (b ∷ c ∷ d ∷ xs) (subst (λ (n : ℕ). Reads (n ∷ b ∷ c ∷ d ∷ xs)) e is);
+  nano = λ ea eb ec. law.nano (d ∷ xs) (subst (λ (n : ℕ). Reads (77 ∷ 60 ∷ n ∷ d ∷ xs)) ec
+      (subst (λ (n : ℕ). Reads (77 ∷ n ∷ c ∷ d ∷ xs)) eb (subst (λ (n : ℕ). Reads (n ∷ b ∷ c ∷ d ∷ xs)) ea is)));
+  section = λ ea eb ec ed. law.section xs (subst (λ (n : ℕ). Reads (10 ∷ 13 ∷ 13 ∷ n ∷ xs)) ed
+      (subst (λ (n : ℕ). Reads (10 ∷ 13 ∷ n ∷ d ∷ xs)) ec
+      (subst (λ (n : ℕ). Reads (10 ∷ n ∷ c ∷ d ∷ xs)) eb (subst (λ (n : ℕ). Reads (n ∷ b ∷ c ∷ d ∷ xs)) ea is))));
 }
 
 -- it is no pcapng file
@@ -119,17 +120,32 @@ no_capture : (a b c d : ℕ) (xs : List ℕ) → a < 256 → b < 256 → c < 256
 no_capture a b c d xs la lb lc ld begins = as_pcap (a ∷ b ∷ c ∷ d ∷ xs) (no_head a b c d xs begins) ∙ no_pcap a b c d xs la lb lc ld begins
 
 -- nor does a front of it
-pub begins_no_capture : BeginsNoCapture → (text : List ℕ) (c : Contents) (k : ℕ) → AreBytes text → read_script text ≡ Ok c → (capture_of (take k text)).records ≡ []
-begins_no_capture law text c k bytes is = at text k bytes c is
+pub begins_no_capture : (Reads : List ℕ → Type 0) → BeginsNoCapture Reads → (text : List ℕ) (k : ℕ) → AreBytes text → Reads text → (capture_of (take k text)).records ≡ []
+begins_no_capture Reads law text k bytes is = at text k bytes is
   where
-    at : (text : List ℕ) (k : ℕ) → AreBytes text → (c : Contents) → read_script text ≡ Ok c → (capture_of (take k text)).records ≡ []
-    at (a ∷ b ∷ c ∷ d ∷ xs) (suc (suc (suc (suc k)))) bytes contents is =
-        no_capture a b c d (take k xs) (bytes 0 0 (omega arith)) (bytes 1 0 (omega arith)) (bytes 2 0 (omega arith)) (bytes 3 0 (omega arith)) (begins_otherwise law a b c d xs contents is)
-    at text zero bytes contents is = no_records (take zero text) (omega (arith, length-take zero text))
-    at text (suc zero) bytes contents is = no_records (take 1 text) (omega (arith, length-take 1 text))
-    at text (suc (suc zero)) bytes contents is = no_records (take 2 text) (omega (arith, length-take 2 text))
-    at text (suc (suc (suc zero))) bytes contents is = no_records (take 3 text) (omega (arith, length-take 3 text))
-    at [] k bytes contents is = no_records (take k []) (omega (arith, length-take {A = ℕ} k []))
-    at (a ∷ []) k bytes contents is = no_records (take k (a ∷ [])) (omega (arith, length-take k (a ∷ [])))
-    at (a ∷ b ∷ []) k bytes contents is = no_records (take k (a ∷ b ∷ [])) (omega (arith, length-take k (a ∷ b ∷ [])))
-    at (a ∷ b ∷ c ∷ []) k bytes contents is = no_records (take k (a ∷ b ∷ c ∷ [])) (omega (arith, length-take k (a ∷ b ∷ c ∷ [])))
+    at : (text : List ℕ) (k : ℕ) → AreBytes text → Reads text → (capture_of (take k text)).records ≡ []
+    at (a ∷ b ∷ c ∷ d ∷ xs) (suc (suc (suc (suc k)))) bytes is =
+        no_capture a b c d (take k xs) (bytes 0 0 (omega arith)) (bytes 1 0 (omega arith)) (bytes 2 0 (omega arith)) (bytes 3 0 (omega arith)) (begins_otherwise Reads law a b c d xs is)
+    at text zero bytes is = no_records (take zero text) (omega (arith, length-take zero text))
+    at text (suc zero) bytes is = no_records (take 1 text) (omega (arith, length-take 1 text))
+    at text (suc (suc zero)) bytes is = no_records (take 2 text) (omega (arith, length-take 2 text))
+    at text (suc (suc (suc zero))) bytes is = no_records (take 3 text) (omega (arith, length-take 3 text))
+    at [] k bytes is = no_records (take k []) (omega (arith, length-take {A = ℕ} k []))
+    at (a ∷ []) k bytes is = no_records (take k (a ∷ [])) (omega (arith, length-take k (a ∷ [])))
+    at (a ∷ b ∷ []) k bytes is = no_records (take k (a ∷ b ∷ [])) (omega (arith, length-take k (a ∷ b ∷ [])))
+    at (a ∷ b ∷ c ∷ []) k bytes is = no_records (take k (a ∷ b ∷ c ∷ [])) (omega (arith, length-take k (a ∷ b ∷ c ∷ [])))
+
+-- ---- what is read so
+
+-- a script without a fault
+abbrev pub IsScript : List ℕ → Type 0
+IsScript text = (c : Contents) × (read_script text ≡ Ok c)
+
+-- a description that makes a script with some other text
+abbrev pub IsDescription : List ℕ → Type 0
+IsDescription text =
+    (times : List ℕ) × (c : Contents) × (described_script text times ≡ Ok c)
+
+-- settings and timed lines that make a script with some description
+abbrev pub AreTimes : List ℕ → Type 0
+AreTimes text = (sdp : List ℕ) × (c : Contents) × (described_script sdp text ≡ Ok c)

@@ -1,5 +1,5 @@
 -- No script begins a pcapng file: its second line would be a carriage return that isn't dropped.
-use Rattle.std.proofs.Common.{◌≡◌, ◌≢◌, ℕ, Bool, true, false, List, [], ◌∷◌, length, Result, Ok, Err}
+use Rattle.std.proofs.Common.{◌≢◌, ℕ, Bool, true, false, List, ◌∷◌, length, Result, Ok, Err}
 use Rattle.std.specs.Prelude.{nat_lt, if◌then◌else◌}
 use Rattle.script_lang.specs.declared.fault.ScriptCause.TheVariants as cause
 use Rattle.script_lang.specs.declared.fault.ScriptFault.{ScriptFault}

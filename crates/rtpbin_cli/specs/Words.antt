@@ -13,10 +13,12 @@ use Rattle.rtpbin_cli.specs.declared.words.Way.TheVariants.{Play, Answer}
 use Rattle.rtpbin_cli.specs.declared.words.Asked.{Asked}
 use Rattle.rtpbin_cli.specs.declared.words.Asked.TheVariants as asked
 
--- what is asked for: what is done with a capture by a script; a capture to be dumped; or the replay
--- of generated packets, by the number of the first one and their count
+-- what is asked for: what is done with a capture by a script; the replay of a capture by a session
+-- description and a text with settings and timed lines; a capture to be dumped; or the replay of
+-- generated packets, by the number of the first one and their count
 pub data Form : Type 0 where
   Scripted : Way → List ℕ → List ℕ → Form
+  Described : List ℕ → List ℕ → List ℕ → Form
   Dump : List ℕ → Form
   Gen : ℕ → ℕ → Form
 
@@ -77,12 +79,25 @@ three_of command second third =
     else if bytes_eq command (codes "gen") then gen_of second third
     else replay_of command false second third
 
+-- behind `sdp`; any name may be `-x`
+abbrev pub sdp_of : List ℕ → List ℕ → List ℕ → Option Form
+sdp_of capture sdp times =
+    if may_be_read capture sdp && may_be_read capture times && may_be_read sdp times
+    then Some (Described capture sdp times)
+    else None
+
+-- a command with three words
+abbrev pub four_of : List ℕ → List ℕ → List ℕ → List ℕ → Option Form
+four_of command second third fourth =
+    if bytes_eq command (codes "sdp") then sdp_of second third fourth
+    else if bytes_eq second (codes "-x") then replay_of command true third fourth
+    else None
+
 abbrev pub form_of : List (List ℕ) → Option Form
 form_of (command ∷ capture ∷ []) =
     if bytes_eq command (codes "dump") then Some (Dump capture) else None
 form_of (command ∷ second ∷ third ∷ []) = three_of command second third
-form_of (command ∷ option ∷ capture ∷ script ∷ []) =
-    if bytes_eq option (codes "-x") then replay_of command true capture script else None
+form_of (command ∷ second ∷ third ∷ fourth ∷ []) = four_of command second third fourth
 form_of (command ∷ format ∷ pt ∷ capture ∷ script ∷ []) =
     depay_of command format pt capture script
 form_of words = None
@@ -90,6 +105,7 @@ form_of words = None
 -- a form as the program holds it
 abbrev pub form_view : Asked → Form
 form_view (asked.Scripted way capture script) = Scripted way capture.now script.now
+form_view (asked.Described capture sdp times) = Described capture.now sdp.now times.now
 form_view (asked.Dump capture) = Dump capture.now
 form_view (asked.Gen first count) = Gen first count
 
@@ -101,5 +117,6 @@ IsSmall asked = Unit {0}
 -- the name of the capture, where one is read
 abbrev pub capture_name : Form → List ℕ
 capture_name (Scripted way capture script) = capture
+capture_name (Described capture sdp times) = capture
 capture_name (Dump capture) = capture
 capture_name (Gen first count) = []

@@ -208,6 +208,86 @@ fn units(rt: HostRuntime) -> Result<(), Fail> {
     Ok(())
 }
 
+const SDP: &[u8] = b"v=0\r\no=- 1 1 IN IP4 127.0.0.1\r\nm=video 5004 RTP/AVP 96\r\n\
+      a=rtpmap:96 H264/90000\r\n";
+
+const TIMES: &[u8] = b"set latency 100\nset probation 0\nset mode none\n";
+
+const DESCRIBED_LOG: &[u8] = b"0 pt 0 96 90000\n\
+      0 lane 0 0 11223344\n\
+      100000000 out 0 65537 0 96 0 4\n\
+      100000000 end 0\n\
+      done 1 1 1 0 0\n";
+
+const CUT_SDP: &[u8] = b"v=0\r\no=- 1 1 IN IP4 127.0.0.1\r\nm=video 5004 RTP/AV";
+
+const CUT_TIMES: &[u8] = b"set latency 100\nset probation 0\nset mode";
+
+// The description and the other text, the call on the files that fails (0 for none), and what comes:
+// the status, the log, and the error text. Three calls open and read each of the texts.
+const DESCRIBED: [(&[u8], &[u8], u64, Status, &[u8], &[u8]); 6] = [
+    (SDP, TIMES, 0, Status::Done, DESCRIBED_LOG, b""),
+    (
+        CUT_SDP,
+        CUT_TIMES,
+        0,
+        Status::Script,
+        b"",
+        b"rtpbin: sdp line 3: media\n",
+    ),
+    (
+        SDP,
+        CUT_TIMES,
+        0,
+        Status::Script,
+        b"",
+        b"rtpbin: script line 3: word\n",
+    ),
+    (
+        CUT_SDP,
+        CUT_TIMES,
+        1,
+        Status::Read,
+        b"",
+        b"rtpbin: read failed\n",
+    ),
+    (
+        CUT_SDP,
+        CUT_TIMES,
+        5,
+        Status::Read,
+        b"",
+        b"rtpbin: read failed\n",
+    ),
+    (SDP, TIMES, 8, Status::Read, b"", b"rtpbin: read failed\n"),
+];
+
+#[test]
+fn described(rt: HostRuntime) -> Result<(), Fail> {
+    let alloc = rt.alloc();
+    let words = vec![in alloc;
+        String::from_str(alloc, "sdp")?,
+        String::from_str(alloc, "-x")?,
+        String::from_str(alloc, "d")?,
+        String::from_str(alloc, "t")?,
+    ]?;
+    let capture = capture_of(alloc, &[(1, 0, 0)])?;
+    for (i, (sdp, times, call, status, log, text)) in DESCRIBED.into_iter().enumerate() {
+        let mut files = MemoryFiles::new(alloc)?;
+        files.add(alloc, "-x", &capture)?;
+        files.add(alloc, "d", sdp)?;
+        files.add(alloc, "t", times)?;
+        files.fail_at(call)?;
+        let mut out = MemorySink::with_room(alloc, 1000)?;
+        let mut err = MemorySink::with_room(alloc, 1000)?;
+        let answer = run_tool(alloc, &words, &mut files, &mut out, &mut err);
+        assert_eq!(rt; answer, status, "status at {i}");
+        assert_eq!(rt; out.bytes(), log, "output at {i}");
+        assert_eq!(rt; err.bytes(), text, "errors at {i}");
+    }
+    Ok(())
+}
+
 const USAGE: &[u8] = b"rtpbin: usage: replay [-x] CAPTURE SCRIPT | dump CAPTURE | \
       rtxsend CAPTURE SCRIPT | gen NUMBER COUNT | live [-x] CAPTURE SCRIPT | \
       sdp CAPTURE SDP TIMES | depay FORMAT PT CAPTURE SCRIPT\n";

@@ -1,23 +1,26 @@
 //! The top call.
 ghost use Rattle.std.specs.Prelude.{◌≡◌, ◌≢◌, ◌⊎◌, ◌<◌, ◌-◌, ◌^◌, None, Some, IsTrue};
 ghost use Rattle.rtp_io.specs.Outside.{SameDisk};
-ghost use Rattle.rtpbin_cli.specs.Words.{form_of, texts, Scripted};
+ghost use Rattle.rtpbin_cli.specs.Words.{form_of, texts, Scripted, Described, Dump};
 ghost use Rattle.rtpbin_cli.specs.Commands.{scripted_output};
 ghost use Rattle.rtpbin_cli.specs.Outcome.{HasErr, HasOut, HasSomeErr, HasTaken, HasStatusCause};
 ghost use Rattle.rtpbin_cli.specs.Outcome.{IsAnswer, IsUsageOr, Knows, MayOpen};
 ghost use Rattle.rtpbin_cli.specs.Outcome.{status_of, stop_of, wanted, wanted_of};
 ghost use Rattle.command_core.specs.Steps.{Covers, HasStopCause};
-ghost use Rattle.rtpbin_cli.specs.Steps.{IsOfForm, IsUsage, Reports, Runs, Told};
+ghost use Rattle.sdp_command.specs.Failures.{HasFailureCause};
+ghost use Rattle.rtpbin_cli.specs.Steps.{IsOfForm, IsUsage, Reports, Runs, RunsAny, Told};
 
 use crate::words::{Asked, Way, asked_by};
 use command_core::{Status, Stop, read_script};
 use dump_command::dump_open;
 use gen_command::print_generated;
-use replay_command::play_open;
+use replay_command::{Style, play_open};
 use rtp_io::{Failed, Files, Sink, write_piece};
 use rtxsend_command::rtxsend_open;
 use script_lang::Script;
 use script_lang::laws::begins_no_capture;
+use sdp_command::{Failure, read_described, stopped};
+use sdp_profile::laws::{description_begins_no_capture, times_begin_no_capture};
 use std::alloc::{AllocError, Global};
 
 /// Does what the words ask for, and answers how it ended. The text of a status other than `Done`
@@ -87,20 +90,20 @@ pub fn run_tool<F: Files, O: Sink, E: Sink>(
 {
     match run(alloc, words, files, out) {
         Ok(()) => Status::Done,
-        Err(stop) => report(alloc, stop, err),
+        Err(failure) => report(alloc, failure, err),
     }
 }
 
-// Writes the text of a stop, and answers the status.
-fn report<E: Sink>(alloc: Global, stop: Stop, err: &mut E) -> Status
+// Writes the text of a failure, and answers the status.
+fn report<E: Sink>(alloc: Global, failure: Failure, err: &mut E) -> Status
     requires { E.faults err.old < 2 ^ 64 - 1 }
-    ensures { Reports result stop (E.written err.old) (E.written err.new)
+    ensures { Reports result failure (E.written err.old) (E.written err.new)
         (E.faults err.old) (E.faults err.new) }
 {
-    match stop {
-        Stop::Write => Status::Write,
-        stop => match stop.to_string(alloc) {
-            Ok(text) => tell(stop.status(), text.as_bytes(), err),
+    match failure {
+        Failure::Stopped(Stop::Write) => Status::Write,
+        failure => match failure.to_string(alloc) {
+            Ok(text) => tell(failure.status(), text.as_bytes(), err),
             Err(AllocError) => tell(Status::Memory, b"rtpbin: out of memory\n", err),
         },
     }
@@ -123,16 +126,16 @@ fn run<F: Files, O: Sink>(
     words: &[String],
     files: &mut F,
     out: &mut O,
-) -> Result<(), Stop>
+) -> Result<(), Failure>
     requires may_open { MayOpen (form_of (texts words.now)) (F.disk files.old) }
     requires files { F.faults files.old < 2 ^ 64 - 1 }
     requires out { O.faults out.old < 2 ^ 64 - 1 }
     ensures same { SameDisk (F.disk files.old) (F.disk files.new) }
     ensures runs { Knows (form_of (texts words.now)) (F.disk files.old)
-        → Runs result (wanted (F.disk files.old).contents (form_of (texts words.now)))
+        → RunsAny result (wanted (F.disk files.old).contents (form_of (texts words.now)))
         (form_of (texts words.now)) (F.disk files.new) (O.written out.old) (O.written out.new) }
     ensures usage { IsUsage result (form_of (texts words.now)) }
-    ensures cause { HasStopCause result (F.faults files.old) (F.faults files.new)
+    ensures cause { HasFailureCause result (F.faults files.old) (F.faults files.new)
         (O.faults out.old) (O.faults out.new) }
 {
     match asked_by(words) {
@@ -142,13 +145,77 @@ fn run<F: Files, O: Sink>(
                 capture,
                 script,
             },
-        ) => follow(alloc, way, capture, script, files, out),
-        Some(Asked::Dump { capture }) => match files.open_file(capture) {
-            Ok(()) => dump_open(alloc, files, out),
-            Err(Failed) => Err(Stop::Read),
-        },
-        Some(Asked::Gen { first, count }) => print_generated(alloc, first, count, out),
-        None => Err(Stop::Usage),
+        ) => stopped(follow(alloc, way, capture, script, files, out)),
+        Some(
+            Asked::Described {
+                capture,
+                sdp,
+                times,
+            },
+        ) => follow_described(alloc, capture, sdp, times, files, out),
+        Some(Asked::Dump { capture }) => stopped(dump_capture(alloc, capture, files, out)),
+        Some(Asked::Gen { first, count }) => stopped(print_generated(alloc, first, count, out)),
+        None => Err(Failure::Stopped(Stop::Usage)),
+    }
+}
+
+// Opens the capture, and dumps it.
+fn dump_capture<F: Files, O: Sink>(
+    alloc: Global,
+    capture: &str,
+    files: &mut F,
+    out: &mut O,
+) -> Result<(), Stop>
+    requires capture { IsTrue ((F.disk files.old).may_open capture.now) }
+    requires files { F.faults files.old < 2 ^ 64 - 1 }
+    requires out { O.faults out.old < 2 ^ 64 - 1 }
+    ensures same { SameDisk (F.disk files.old) (F.disk files.new) }
+    ensures runs { IsTrue (F.disk files.old).told
+        → Runs result (wanted_of (F.disk files.old).contents (Dump capture.now))
+        (Some (Dump capture.now)) (F.disk files.new) (O.written out.old) (O.written out.new) }
+    ensures of_form { IsOfForm result }
+    ensures cause { HasStopCause result (F.faults files.old) (F.faults files.new)
+        (O.faults out.old) (O.faults out.new) }
+{
+    match files.open_file(capture) {
+        Ok(()) => dump_open(alloc, files, out),
+        Err(Failed) => Err(Stop::Read),
+    }
+}
+
+// Reads the description and the settings and timed lines, and then replays the capture.
+fn follow_described<F: Files, O: Sink>(
+    alloc: Global,
+    capture: &str,
+    sdp: &str,
+    times: &str,
+    files: &mut F,
+    out: &mut O,
+) -> Result<(), Failure>
+    requires sdp { IsTrue ((F.disk files.old).may_open sdp.now) }
+    requires times { IsTrue ((F.disk files.old).may_open times.now) }
+    requires capture { IsTrue ((F.disk files.old).may_open capture.now) }
+    requires files { F.faults files.old < 2 ^ 64 - 1 }
+    requires out { O.faults out.old < 2 ^ 64 - 1 }
+    ensures same { SameDisk (F.disk files.old) (F.disk files.new) }
+    ensures runs { IsTrue (F.disk files.old).told → RunsAny result
+        (wanted_of (F.disk files.old).contents (Described capture.now sdp.now times.now))
+        (Some (Described capture.now sdp.now times.now)) (F.disk files.new)
+        (O.written out.old) (O.written out.new) }
+    ensures usage { IsUsage result (Some (Described capture.now sdp.now times.now)) }
+    ensures cause { HasFailureCause result (F.faults files.old) (F.faults files.new)
+        (O.faults out.old) (O.faults out.new) }
+{
+    // Laws for the proof: neither text begins a capture. The calls do nothing.
+    description_begins_no_capture();
+    times_begin_no_capture();
+    let script = match read_described(alloc, files, sdp, times) {
+        Ok(script) => script,
+        Err(failure) => return Err(failure),
+    };
+    match files.open_file(capture) {
+        Ok(()) => stopped(play_open(alloc, &script, Style::Log { hex: false }, files, out)),
+        Err(Failed) => Err(Failure::Stopped(Stop::Read)),
     }
 }
 

@@ -2,7 +2,8 @@
 ghost use Rattle.std.specs.Prelude.{◌≡◌, option_map, string_bytes, IfSome};
 ghost use Rattle.rtpbin_cli.specs.Numbers.{number_in};
 ghost use Rattle.rtpbin_cli.specs.Words.{texts, form_of, form_view, replay_of, depay_of};
-ghost use Rattle.rtpbin_cli.specs.Words.{three_of, rtxsend_of, gen_of, IsSmall};
+ghost use Rattle.rtpbin_cli.specs.Words.{three_of, four_of, sdp_of, rtxsend_of};
+ghost use Rattle.rtpbin_cli.specs.Words.{gen_of, may_be_read, IsSmall};
 ghost use Rattle.rtpbin_cli.specs.Words.{format_named as format_of, units_of};
 
 use crate::numbers::number;
@@ -26,6 +27,12 @@ pub enum Asked<'a> {
         capture: &'a str,
         script: &'a str,
     },
+    /// A capture is replayed by a session description and a text with settings and timed lines.
+    Described {
+        capture: &'a str,
+        sdp: &'a str,
+        times: &'a str,
+    },
     /// A line for each record.
     Dump {
         capture: &'a str,
@@ -38,8 +45,9 @@ pub enum Asked<'a> {
 }
 
 /// What these words ask for, where they have a form: `replay [-x] CAPTURE SCRIPT`, `dump CAPTURE`,
-/// `rtxsend CAPTURE SCRIPT`, `gen NUMBER COUNT` or `depay FORMAT PT CAPTURE SCRIPT`. The count of
-/// words decides, and at most one of the names is standard input.
+/// `rtxsend CAPTURE SCRIPT`, `gen NUMBER COUNT`, `sdp CAPTURE SDP TIMES` or
+/// `depay FORMAT PT CAPTURE SCRIPT`. The count of words decides, and at most one of the names is
+/// standard input.
 pub fn asked_by(words: &[String]) -> Option<Asked<'_>>
     ensures form { option_map form_view result ≡ form_of (texts words.now) }
     ensures small { IfSome result IsSmall }
@@ -54,13 +62,7 @@ pub fn asked_by(words: &[String]) -> Option<Asked<'_>>
             }
         }
         [command, second, third] => of_three(command, second, third),
-        [command, option, capture, script] => {
-            if option.as_str() == "-x" {
-                replay(command, true, capture, script)
-            } else {
-                None
-            }
-        }
+        [command, second, third, fourth] => of_four(command, second, third, fourth),
         [command, format, pt, capture, script] => depay(command, format, pt, capture, script),
         _ => None,
     }
@@ -78,6 +80,50 @@ fn of_three<'a>(command: &String, second: &'a String, third: &'a String) -> Opti
     } else {
         replay(command, false, second, third)
     }
+}
+
+fn of_four<'a>(
+    command: &String,
+    second: &'a String,
+    third: &'a String,
+    fourth: &'a String,
+) -> Option<Asked<'a>>
+    ensures small { IfSome result IsSmall }
+    ensures form { option_map form_view result ≡ four_of (string_bytes command.now)
+        (string_bytes second.now) (string_bytes third.now) (string_bytes fourth.now) }
+{
+    if command.as_str() == "sdp" {
+        described(second.as_str(), third.as_str(), fourth.as_str())
+    } else if second.as_str() == "-x" {
+        replay(command, true, third, fourth)
+    } else {
+        None
+    }
+}
+
+fn described<'a>(capture: &'a str, sdp: &'a str, times: &'a str) -> Option<Asked<'a>>
+    ensures small { IfSome result IsSmall }
+    ensures form { option_map form_view result ≡ sdp_of capture.now sdp.now times.now }
+{
+    if may_both_be_read(capture, sdp)
+        && may_both_be_read(capture, times)
+        && may_both_be_read(sdp, times)
+    {
+        Some(Asked::Described {
+            capture,
+            sdp,
+            times,
+        })
+    } else {
+        None
+    }
+}
+
+// Not both names are standard input.
+fn may_both_be_read(name: &str, other: &str) -> bool
+    ensures { result ≡ may_be_read name.now other.now }
+{
+    !(name == "-" && other == "-")
 }
 
 fn rtxsend<'a>(capture: &'a String, script: &'a String) -> Option<Asked<'a>>

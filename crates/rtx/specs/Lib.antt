@@ -1,4 +1,5 @@
 pub mod Pairs
+pub mod Places
 pub mod Requests
 pub mod Restoring
 pub mod Restored

@@ -9,6 +9,7 @@ mod history;
 pub mod laws;
 mod map;
 mod outlet;
+mod packets;
 mod receiver;
 mod requests;
 mod sent;
@@ -19,6 +20,8 @@ pub use history::History;
 pub use map::Map;
 #[doc(hidden)]
 pub use outlet::Outlet;
+#[doc(hidden)]
+pub use packets::SentPackets;
 #[doc(hidden)]
 pub use receiver::Original;
 pub use receiver::Receiver;

@@ -5,8 +5,8 @@ ghost use Rattle.std.specs.Map.{lookup};
 ghost use Rattle.circular_buffer.specs.Buffer.{buffer};
 ghost use Rattle.rtx.specs.Sending.{Stream as StreamKey, is_stream, latest_in, pushed};
 
+use crate::packets::SentPackets;
 use crate::sent::SentPacket;
-use circular_buffer::HeapCircularBuffer;
 use indexmap::IndexMap;
 use rtp_units::OutOfMemory;
 use std::alloc::Global;
@@ -15,7 +15,7 @@ use std::alloc::Global;
 pub(crate) type Stream = (u8, u32);
 
 /// The last packets of streams, the latest first.
-pub(crate) type Streams = IndexMap<Stream, HeapCircularBuffer<SentPacket>>;
+pub(crate) type Streams = IndexMap<Stream, SentPackets>;
 
 /// Adds a packet of a stream that is remembered, which takes no memory.
 pub(crate) fn add_packet(streams: &mut Streams, stream: Stream, sent: SentPacket)
@@ -24,7 +24,7 @@ pub(crate) fn add_packet(streams: &mut Streams, stream: Stream, sent: SentPacket
     ensures count { length streams.new.entries ≡ length streams.old.entries }
 {
     if let Some(packets) = streams.get_mut(&stream) {
-        packets.push_front(sent);
+        packets.add(sent);
     }
 }
 
@@ -41,8 +41,8 @@ pub(crate) fn add_stream(
     ensures count { OnOk result (length streams.new.entries ≡ length streams.old.entries + 1) }
     ensures err { OnErr result (streams.new.entries ≡ streams.old.entries) }
 {
-    let mut packets = HeapCircularBuffer::with_capacity(alloc, usize::from(per_stream))?;
-    packets.push_front(sent);
+    let mut packets = SentPackets::with_capacity(alloc, per_stream)?;
+    packets.add(sent);
     streams.insert(stream, packets)?;
     Ok(())
 }
@@ -52,13 +52,7 @@ pub(crate) fn latest(streams: &Streams, stream: Stream, seq: u16) -> Option<&Sen
     ensures { option_copied result ≡ option_and_then (λ b. latest_in b.items seq) (lookup (is_stream stream) streams.now.entries) }
 {
     let packets = streams.get(&stream)?;
-    latest_of(packets, seq)
-}
-
-fn latest_of(packets: &HeapCircularBuffer<SentPacket>, seq: u16) -> Option<&SentPacket>
-    ensures { option_copied result ≡ latest_in packets.now.items seq }
-{
-    packets.iter().find(|sent| sent.seq() == seq)
+    packets.latest(seq)
 }
 
 /// The next number of a retransmission stream; the first is 0.

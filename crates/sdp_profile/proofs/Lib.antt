@@ -7,3 +7,4 @@ pub mod PairLemmas
 pub mod FormatLemmas
 pub mod SoundLemmas
 pub mod ScriptLemmas
+pub mod FirstLine

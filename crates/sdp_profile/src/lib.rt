@@ -8,6 +8,7 @@ mod description;
 mod draft;
 mod fault;
 mod format;
+pub mod laws;
 mod lines;
 mod media;
 mod numbers;

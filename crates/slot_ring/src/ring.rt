@@ -2,6 +2,7 @@
 ghost use Rattle.std.specs.Prelude.{◌≡◌, ◌+◌, ◌%◌, ◌^◌, ◌<◌, ◌≤◌, ◌↔◌, ⊤, Bool, false, map as list_map, length, replicate, is_some, None, IfOk, IfErr, OnOk, IsErr, option_copied};
 ghost use Rattle.std.specs.FinMap as map;
 ghost use Rattle.slot_ring.specs.Ring.{ring, IsTaken};
+ghost use Rattle.slot_ring.specs.Slots.{IsPowerOfTwo};
 
 use crate::entry::Entry;
 use crate::slots::Slots;
@@ -37,12 +38,13 @@ impl<T> Model for SlotRing<T> {
     ghost invariant = { λ r. IsSound r.slots.places r.filled.items r.count × (r.slots.lender ≡ r.alloc) };
 }
 
-/// The slot of a number: the number modulo the count of slots.
+/// The slot of a number: the number modulo the count of slots, which is a power of two.
 fn slot_of(number: u64, filled: &Vec<bool>) -> usize
-    requires { 0 < length filled.now.items }
+    requires { IsPowerOfTwo (length filled.now.items) }
     ensures { result ≡ number % length filled.now.items }
 {
-    (number % filled.len() as u64) as usize
+    let mask = filled.len() as u64 - 1;
+    (number & mask) as usize
 }
 
 /// Drops the value of each slot that holds one.

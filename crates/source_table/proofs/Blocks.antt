@@ -1,14 +1,17 @@
 -- The losses of blocks fit a report.
-use Rattle.std.proofs.Common.{◌≡◌, ◌≤◌, ℕ, ◌-◌, ◌+◌, ℤ, pos, negsuc, ◌≤ℤ◌, neg_ℤ, zero, suc, Bool, true, false, cond, min, List, [], ◌∷◌, Option, Some, None, refl, subst, sym, arith}
+use Rattle.std.proofs.Common.{◌≡◌, ℕ, ◌-◌, ◌+◌, ℤ, pos, negsuc, ◌≤ℤ◌, neg_ℤ, Bool, true, false, cond, min, List, [], ◌∷◌, ◌++◌, Option, Some, None, slice_get, take, ap, ◌∙◌, sym, arith}
 use Rattle.std.specs.Prelude.{nat_le, filter_map}
 use Rattle.std.specs.List.{AllByRecursion, cons_option}
 use Rattle.std.proofs.lemmas.Int.{ints}
+use Rattle.std.proofs.lemmas.List.{take_more, append-nil}
+use Rattle.std.proofs.lemmas.List.Elements.{filter_map-append}
 use Rattle.rtcp_wire.specs.declared.block.ReportBlock.{ReportBlock}
 use Rattle.rtcp_wire.specs.Written.{LossFits}
 use Rattle.source_table.specs.declared.counts.Counts.{Counts}
 use Rattle.source_table.specs.declared.source.Source.{Source}
 use Rattle.source_table.specs.Counting.{lost_of, expected_of}
 use Rattle.source_table.specs.Sources.{block_of, block_from}
+use Rattle.source_table.proofs.Gone.{at_get}
 
 abbrev Fits : ℤ → Type 0
 Fits z = (negsuc 8388607 ≤ℤ z) × (z ≤ℤ pos 8388607)
@@ -40,3 +43,23 @@ one_fits (Some c) s ssrc now bs rest = spoken_fits s.spoke _ bs (loss_fits c) re
 pub blocks_fit : (now : ℕ) (es : List (ℕ × Source)) → AllFit (filter_map (λ e. block_of e.1 e.0 now) es)
 blocks_fit now [] = tt
 blocks_fit now (e ∷ es) = one_fits e.1.counts e.1 e.0 now (filter_map (λ x. block_of x.1 x.0 now) es) (blocks_fit now es)
+
+-- ---- the blocks of the first sources, one source more
+
+blocks_more : (now : ℕ) (es : List (ℕ × Source)) (i : ℕ) (e : ℕ × Source) → slice_get es i ≡ Some e
+    → filter_map (λ x. block_of x.1 x.0 now) (take (i + 1) es) ≡ filter_map (λ x. block_of x.1 x.0 now) (take i es) ++ cons_option (block_of e.1 e.0 now) []
+blocks_more now es i e at =
+    let there = at_get es i e at in
+    ap (filter_map (λ x. block_of x.1 x.0 now)) (take_more es i e there.0 ∙ ap (λ (x : ℕ × Source). take i es ++ x ∷ []) there.1)
+    ∙ filter_map-append (λ x. block_of x.1 x.0 now) (take i es) (e ∷ [])
+
+pub blocks_then : (now : ℕ) (es : List (ℕ × Source)) (i : ℕ) (e : ℕ × Source) (b : ReportBlock) → slice_get es i ≡ Some e → Some b ≡ block_of e.1 e.0 now
+    → filter_map (λ x. block_of x.1 x.0 now) (take (i + 1) es) ≡ filter_map (λ x. block_of x.1 x.0 now) (take i es) ++ b ∷ []
+blocks_then now es i e b at is =
+    blocks_more now es i e at ∙ ap (λ (o : Option ReportBlock). filter_map (λ x. block_of x.1 x.0 now) (take i es) ++ cons_option o []) (sym is)
+
+pub blocks_still : (now : ℕ) (es : List (ℕ × Source)) (i : ℕ) (e : ℕ × Source) → slice_get es i ≡ Some e → None ≡ block_of e.1 e.0 now
+    → filter_map (λ x. block_of x.1 x.0 now) (take (i + 1) es) ≡ filter_map (λ x. block_of x.1 x.0 now) (take i es)
+blocks_still now es i e at is =
+    blocks_more now es i e at ∙ ap (λ (o : Option ReportBlock). filter_map (λ x. block_of x.1 x.0 now) (take i es) ++ cons_option o []) (sym is)
+    ∙ append-nil (filter_map (λ x. block_of x.1 x.0 now) (take i es))

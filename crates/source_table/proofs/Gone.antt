@@ -11,7 +11,7 @@ filter_push : (p : ℕ × Source → Bool) (xs : List (ℕ × Source)) (x : ℕ 
 filter_push p [] x = refl
 filter_push p (y ∷ ys) x = pushed (p y) y (filter p (ys ++ x ∷ [])) (filter p ys) (cond (p x) (x ∷ []) []) (filter_push p ys x)
 
-at_get : (xs : List (ℕ × Source)) (i : ℕ) (x : ℕ × Source) → slice_get xs i ≡ Some x → (i < length xs) × (get_or xs i x ≡ x)
+pub at_get : (xs : List (ℕ × Source)) (i : ℕ) (x : ℕ × Source) → slice_get xs i ≡ Some x → (i < length xs) × (get_or xs i x ≡ x)
 at_get [] i x e = absurd cc
 at_get (y ∷ ys) zero x e = let same : y ≡ x = cc in (omega arith, same)
 at_get (y ∷ ys) (suc i) x e = let rest = at_get ys i x e in (omega (arith, rest.0), rest.1)

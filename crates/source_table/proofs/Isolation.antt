@@ -1,10 +1,9 @@
 -- A table keeps of each source what the calls on it leave.
-use Rattle.std.proofs.Common.{◌≡◌, ℕ, Bool, true, false, cond, not, nat_eq, List, [], ◌∷◌, Option, Some, None, Ok, Err, map, filter, refl, sym, ap, subst, ◌∙◌, arith}
+use Rattle.std.proofs.Common.{◌≡◌, ℕ, Bool, true, false, cond, not, nat_eq, List, [], ◌∷◌, Option, Some, None, Ok, Err, map, filter, refl, sym, ap, subst, ◌∙◌}
 use Rattle.std.specs.Prelude.{◌||◌, Result, option_map, if◌then◌else◌}
 use Rattle.std.specs.List.{list_any}
 use Rattle.std.specs.Map.{lookup}
-use Rattle.std.proofs.lemmas.Bool.{eq-eqb, eqb-true}
-use Rattle.std.proofs.lemmas.Bool.Decides.{nat_tests}
+use Rattle.std.proofs.lemmas.Bool.{eqb-true}
 use Rattle.indexmap.specs.IndexMap.{insert_entry}
 use Rattle.rtp_units.specs.declared.shared.Address.{Address}
 use Rattle.rtp_wire.specs.Packet.{Packet as View}
@@ -16,8 +15,8 @@ use Rattle.source_table.specs.declared.answers.Named.{Named}
 use Rattle.source_table.specs.declared.answers.Named.TheVariants.{Same, Changed}
 use Rattle.source_table.specs.Sources.{hear_next, report_next, left_next, is_gone, reported}
 use Rattle.source_table.specs.Table.{Table, kept, name_of, packet_of, with_source, changed_by, changed, all_reported, gone, expired}
-use Rattle.source_table.specs.Answers.{source_or, is_name, heard, heard_next_by, named_by, name_next, name_next_by, named}
-use Rattle.source_table.specs.History.{Call, Rtp, Reports, Leaves, Sets, Block, Blocks, Expires, table, table_next, IsAnswered, AreAnswered, StandsFor, Told, told_of, told, told_name, packet_by, only_if, told_heard, told_changed, told_named, alone_next, alone, IsIsolated, IsNamedIfKept}
+use Rattle.source_table.specs.Answers.{source_or, is_name, heard, heard_next_by, named_by, name_next_by}
+use Rattle.source_table.specs.History.{Call, Rtp, Reports, Leaves, Sets, Block, Blocks, Expires, table, IsAnswered, AreAnswered, StandsFor, Told, told_of, told, told_name, packet_by, only_if, told_heard, told_changed, told_named, alone_next, alone, IsIsolated, IsNamedIfKept}
 use Rattle.source_table.proofs.Answering.{is_the_name}
 use Rattle.source_table.proofs.Entries.{at, Distinct, distinct_put, put_at}
 
@@ -355,6 +354,7 @@ isolated_table own probation calls h ssrc =
     told_is (kept (table own probation calls) ssrc) (name_of (table own probation calls) ssrc) (alone probation ssrc calls) (is.each ssrc) (is.names ssrc)
 
 pub isolation : IsIsolated
+unfolding StandsFor
 isolation t own probation calls h ssrc = ap (λ (x : Table). told x ssrc) h.0 ∙ isolated_table own probation calls h.1 ssrc
 
 nameless : (k : Option Told) → source_in k ≡ None → told_name k ≡ None
@@ -362,7 +362,13 @@ nameless None e = refl
 nameless (Some k) e = absurd (let x : Some k.source ≡ None = e in cc)
 
 pub named_if_kept : IsNamedIfKept
+unfolding StandsFor
 named_if_kept t own probation calls h ssrc e =
     let is = is_alone own probation calls h.1 in
     ap (λ (x : Table). name_of x ssrc) h.0 ∙ is.names ssrc
     ∙ nameless (alone probation ssrc calls) (sym (is.each ssrc) ∙ ap (λ (x : Table). kept x ssrc) (sym h.0) ∙ e)
+
+-- the name of a source is what is told of it alone
+pub name_is : (t : Table) (own probation : ℕ) (calls : List Call) → StandsFor t own probation calls → (ssrc : ℕ) → name_of t ssrc ≡ told_name (alone probation ssrc calls)
+unfolding StandsFor
+name_is t own probation calls h ssrc = ap (λ (x : Table). name_of x ssrc) h.0 ∙ (is_alone own probation calls h.1).names ssrc

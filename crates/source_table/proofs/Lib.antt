@@ -1,4 +1,6 @@
 mod Entries
+pub mod Ranging
+pub mod Limiting
 pub mod Standing
 pub mod Validity
 pub mod Gone

@@ -1,17 +1,29 @@
 -- A table that becomes what a call makes of it stands for that call too.
-use Rattle.std.proofs.Common.{◌≡◌, ℕ, Bool, List, Option, ap, subst, ◌∙◌}
-use Rattle.std.specs.Prelude.{Result}
+use Rattle.std.proofs.Common.{◌≡◌, ℕ, Bool, List, [], nat_eq, Option, Some, None, refl, sym, ap, subst, ◌∙◌}
+use Rattle.std.specs.Prelude.{Result, Err}
 use Rattle.rtp_units.specs.declared.shared.Address.{Address}
 use Rattle.rtp_wire.specs.Packet.{Packet as View}
+use Rattle.source_table.specs.declared.source.Source.{Source}
+use Rattle.source_table.specs.declared.source.Packet.{Packet}
 use Rattle.source_table.specs.declared.source.Heard.{Heard}
 use Rattle.source_table.specs.declared.answers.Refuse.{Refuse}
+use Rattle.source_table.specs.declared.answers.Refuse.TheVariants.{Own, LimitSources, Collision, OutOfMemory}
 use Rattle.source_table.specs.declared.answers.Named.{Named}
-use Rattle.source_table.specs.Table.{Table, packet_of, Hears, Names}
+use Rattle.source_table.specs.Table.{Table, empty, kept, packet_of, changed_by, changed, IsSourceFrom, Hears, Names}
 use Rattle.source_table.specs.Answers.{IsAnswer}
-use Rattle.source_table.specs.History.{Call, Rtp, Sets, table_next, IsAnswered, Extends}
+use Rattle.source_table.specs.History.{Call, Rtp, Sets, table_next, IsAnswered, StandsFor, Extends}
+use Rattle.indexmap.specs.IndexMap.{insert_entry}
 use Rattle.source_table.proofs.Answering.{one_hearing, one_naming}
 
+pub begins : (own probation : ℕ) → StandsFor (empty own probation) own probation []
+unfolding StandsFor
+begins own probation = (refl, tt)
+
+pub begins_at : (t : Table) (own probation : ℕ) → t ≡ empty own probation → StandsFor t own probation []
+begins_at t own probation e = subst (λ (x : Table). StandsFor x own probation []) (sym e) (begins own probation)
+
 pub extends : (old : Table) (call : Call) (new : Table) → new ≡ table_next old call → IsAnswered old call → Extends old call new
+unfolding StandsFor
 extends old call new e a = λ own probation calls h. (e ∙ ap (λ (t : Table). table_next t call) h.0, (subst (λ (t : Table). IsAnswered t call) h.0 a, h.1))
 
 pub heard_extends : (old new : Table) (now : ℕ) (from : Address) (view : View) (rate : Option ℕ) (quick : Bool) (answer : Result Heard Refuse)
@@ -24,3 +36,23 @@ pub named_extends : (old new : Table) (ssrc : ℕ) (text : List ℕ) (answer : N
 named_extends old new ssrc text answer h =
     let is = one_naming old new ssrc text answer h in
     extends old (Sets ssrc text answer) new is.1 is.0
+
+-- a call that changes one source, where it is kept
+pub rests : (t : Table) (call : Call) (ssrc : ℕ) (f : Source → Source) → kept t ssrc ≡ None → changed t ssrc f ≡ table_next t call → IsAnswered t call → Extends t call t
+rests t call ssrc f k is a = extends t call t (sym (ap (λ (o : Option Source). changed_by t ssrc o f) k) ∙ is) a
+
+pub changes : (t : Table) (call : Call) (ssrc : ℕ) (f : Source → Source) (s after : Source) (es : List (ℕ × Source))
+    → kept t ssrc ≡ Some s → es ≡ insert_entry nat_eq t.sources ssrc after → after ≡ f s → changed t ssrc f ≡ table_next t call → IsAnswered t call
+    → Extends t call (record t { sources = es })
+changes t call ssrc f s after es k e is next a =
+    extends t call (record t { sources = es })
+    (ap (λ (x : List (ℕ × Source)). record t { sources = x }) (e ∙ ap (λ (x : Source). insert_entry nat_eq t.sources ssrc x) is)
+    ∙ sym (ap (λ (o : Option Source). changed_by t ssrc o f) k) ∙ next)
+    a
+
+-- a packet of no source is refused
+pub refused : (t : Table) (from : Address) (ssrc : ℕ) (p : Packet) (why : Refuse) → (ssrc ≡ t.own → ⊥) → IsSourceFrom t ssrc from (Err why) → Hears t from ssrc p (Err why) t
+refused t from ssrc p Own other h = absurd h
+refused t from ssrc p LimitSources other h = (other, h.0, h.1, refl)
+refused t from ssrc p (Collision first new) other h = (other, h.0, h.1, h.2, h.3, h.4, refl)
+refused t from ssrc p OutOfMemory other h = absurd h

@@ -1,28 +1,25 @@
 -- A source is valid from the first packet on that ends a run.
-use Rattle.std.proofs.Common.{◌≡◌, ◌≤◌, ◌↔◌, ◌⊎◌, inl, inr, ℕ, Bool, true, false, cond, not, nat_eq, List, [], ◌∷◌, Option, Some, None, Ok, Err, map, max, refl, sym, ap, subst, ◌∙◌, arith}
-use Rattle.std.specs.Prelude.{◌==◌, ◌&&◌, Result, nat_le, nat_lt, length, IsSome, is_some, option_map, if◌then◌else◌}
-use Rattle.std.specs.Option.{option_and_then}
-use Rattle.std.proofs.lemmas.Bool.{eqb-true, false≢true}
+use Rattle.std.proofs.Common.{◌≡◌, ◌≤◌, ◌↔◌, inl, inr, ℕ, Bool, true, false, cond, not, nat_eq, List, [], ◌∷◌, Option, Some, None, Ok, Err, max, refl, sym, ap, subst, ◌∙◌, arith}
+use Rattle.std.specs.Prelude.{◌==◌, ◌&&◌, nat_lt, length, IsSome, option_map, if◌then◌else◌}
+use Rattle.std.proofs.lemmas.Bool.{false≢true}
 use Rattle.std.proofs.lemmas.Bool.Decides.{nat_tests}
 use Rattle.rtp_units.specs.declared.shared.Address.{Address}
-use Rattle.rtp_wire.specs.Packet.{Packet as View}
 use Rattle.source_table.specs.declared.counts.Counts.{Counts}
 use Rattle.source_table.specs.declared.source.Source.{Source}
 use Rattle.source_table.specs.declared.source.Packet.{Packet}
 use Rattle.source_table.specs.declared.source.Heard.{Heard}
-use Rattle.source_table.specs.declared.source.Heard.TheVariants.{Waiting, NowValid, Valid}
-use Rattle.source_table.specs.declared.answers.Refuse.{Refuse}
+use Rattle.source_table.specs.declared.source.Heard.TheVariants.{Waiting, NowValid}
 use Rattle.source_table.specs.declared.answers.Refuse.TheVariants.{Own, LimitSources, Collision}
 use Rattle.source_table.specs.Counting.{follows, run_next, counts_begin, counts_reported}
-use Rattle.source_table.specs.Probation.{run_of, AreConsecutive}
+use Rattle.source_table.specs.Probation.{run_of}
 use Rattle.source_table.specs.Sources.{fresh, hear_next, hear_answer, answer_from, counts_next, is_enough, report_next, left_next, is_gone, reported, reported_from}
 use Rattle.source_table.specs.Table.{Table, kept, packet_of}
 use Rattle.source_table.specs.Answers.{is_address, source_or, heard, heard_by, heard_next_by}
-use Rattle.source_table.specs.History.{Call, Rtp, Reports, Leaves, Sets, Block, Blocks, Expires, table, AreAnswered, StandsFor, Told, told_of, packet_by, only_if, told_heard, told_changed, told_named, alone_next, alone, was_gone, packets_next, packets}
+use Rattle.source_table.specs.History.{Call, Rtp, Reports, Leaves, Sets, Block, Blocks, Expires, table, StandsFor, Told, packet_by, only_if, told_heard, told_changed, told_named, alone, was_gone, packets}
 use Rattle.source_table.specs.Validity.{numbers, IsRun, HadRun, IsValidByRun, Tells, IsValidFromRun}
 use Rattle.source_table.proofs.Consecutive.{run_length}
 use Rattle.source_table.proofs.Entries.{at_same}
-use Rattle.source_table.proofs.Isolation.{Is, is_alone, source_in}
+use Rattle.source_table.proofs.Isolation.{is_alone, source_in}
 
 -- ---- a source and its packets
 
@@ -151,6 +148,7 @@ valid_if (Some k) s ps h e =
     valid_by s.counts ps (subst (λ (x : Source). FitsRun x.counts ps) same h.counts)
 
 pub valid_by_run : IsValidByRun
+unfolding StandsFor
 valid_by_run t own probation calls small h ssrc s e =
     let is = is_alone own probation calls h.1 in
     valid_if (alone probation ssrc calls) s (packets probation ssrc calls) (fits probation ssrc calls small) (sym (is.each ssrc) ∙ ap (λ (x : Table). kept x ssrc) (sym h.0) ∙ e)
@@ -189,6 +187,7 @@ tells None false s p ps small run e t h =
     subst (λ (x : Bool). Tells (if x then NowValid else waits s p) ps p (Some (hear_next s p))) (sym t) (h, not_enough s p ps small run t)
 
 pub valid_from_run : IsValidFromRun
+unfolding StandsFor
 valid_from_run t own probation calls now from view rate quick was small h =
     let old = table own probation calls in
     let answers = h.1 in

@@ -18,10 +18,7 @@ follows run seq = not (run.length == 0) && (seq == (run.last + 1) % 65536)
 abbrev pub run_next : Run → ℕ → Run
 run_next run seq = record { last = seq; length = if follows run seq then min (run.length + 1) 255 else 1 }
 
--- ---- counts, which are held to 64 bits; a table ends far below
-
-abbrev pub held : ℕ → ℕ
-held n = min n 18446744073709551615
+-- ---- counts
 
 -- The packet that makes a source valid begins the counts.
 abbrev pub counts_begin : ℕ → Counts
@@ -44,12 +41,18 @@ jump_next c seq =
 -- Below 3000 ahead a packet is in order, from 65437 on it is late or repeated, and between the two it is a jump.
 abbrev pub count_next : Counts → ℕ → Counted
 count_next c seq =
-    if nat_lt (ahead c seq) 3000 then record { counts = record c { greatest = held (c.greatest + ahead c seq); received = held (c.received + 1) }; counted = true }
-    else if nat_lt 65436 (ahead c seq) then record { counts = record c { received = held (c.received + 1) }; counted = true }
+    if nat_lt (ahead c seq) 3000 then record {
+      counts = record c { greatest = c.greatest + ahead c seq; received = c.received + 1 };
+      counted = true;
+    }
+    else if nat_lt 65436 (ahead c seq) then record {
+      counts = record c { received = c.received + 1 };
+      counted = true;
+    }
     else jump_next c seq
 
 abbrev pub expected_of : Counts → ℕ
-expected_of c = held (c.greatest - c.base + 1)
+expected_of c = c.greatest - c.base + 1
 
 -- expected less received, held to 24 bits with a sign
 abbrev pub lost_of : Counts → ℤ
@@ -61,7 +64,8 @@ lost_of c =
 abbrev pub fraction_of : Counts → ℕ
 fraction_of c =
     if nat_le (expected_of c - c.prior_expected) (c.received - c.prior_received) then 0
-    else min (((expected_of c - c.prior_expected) - (c.received - c.prior_received)) * 256 / (expected_of c - c.prior_expected)) 255
+    else ((expected_of c - c.prior_expected) - (c.received - c.prior_received)) * 256
+    / (expected_of c - c.prior_expected)
 
 abbrev pub counts_reported : Counts → Counts
 counts_reported c = record c { prior_expected = expected_of c; prior_received = c.received }

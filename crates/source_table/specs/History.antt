@@ -1,5 +1,5 @@
 -- What a table stands for: the calls on it, each with its answer; and what the calls on one source make of it.
-use Rattle.std.specs.Prelude.{◌≡◌, ℕ, not, nat_eq, if◌then◌else◌, Bool, true, false, max, List, [], ◌∷◌, Option, Some, None, Result, Ok, Err, option_map}
+use Rattle.std.specs.Prelude.{◌≡◌, ℕ, not, nat_eq, if◌then◌else◌, Bool, false, max, List, [], ◌∷◌, Option, Some, None, Result, Ok, Err, option_map}
 use Rattle.rtp_units.specs.declared.shared.Address.{Address}
 use Rattle.rtp_wire.specs.Packet.{Packet as View}
 use Rattle.source_table.specs.declared.source.Source.{Source}
@@ -7,9 +7,9 @@ use Rattle.source_table.specs.declared.source.Packet.{Packet}
 use Rattle.source_table.specs.declared.source.Heard.{Heard}
 use Rattle.source_table.specs.declared.answers.Refuse.{Refuse}
 use Rattle.source_table.specs.declared.answers.Named.{Named}
-use Rattle.source_table.specs.Answers.{IsAnswer, heard, heard_next, named, name_next}
+use Rattle.source_table.specs.Answers.{heard, heard_next, named, name_next}
 use Rattle.source_table.specs.Sources.{fresh, hear_next, report_next, left_next, is_gone, reported}
-use Rattle.source_table.specs.Table.{Table, empty, kept, name_of, IsNamed, packet_of, changed, expired, all_reported, Hears, Names}
+use Rattle.source_table.specs.Table.{Table, empty, kept, name_of, IsNamed, packet_of, changed, expired, all_reported}
 
 -- A call on a table. A packet and a name come with their answers.
 pub data Call : Type 0 where
@@ -55,7 +55,8 @@ AreAnswered own probation (call ∷ before) =
     IsAnswered (table own probation before) call × AreAnswered own probation before
 
 -- A table that was made with this SSRC and this probation went through these calls, the latest first.
-abbrev pub StandsFor : Table → ℕ → ℕ → List Call → Type 0
+-- How it holds what they leave is its own affair.
+unfoldable pub StandsFor : Table → ℕ → ℕ → List Call → Type 0
 StandsFor t own probation calls =
     (t ≡ table own probation calls) × AreAnswered own probation calls
 
@@ -64,27 +65,6 @@ abbrev pub Extends : Table → Call → Table → Type 0
 Extends old call new =
     (own probation : ℕ) (calls : List Call)
     → StandsFor old own probation calls → StandsFor new own probation (call ∷ calls)
-
--- A new table stands for no call, and each call adds itself.
-abbrev pub BeginsEmpty : Type 0
-BeginsEmpty = (own probation : ℕ) → StandsFor (empty own probation) own probation []
-
-abbrev pub GoesOn : Type 0
-GoesOn =
-    (old : Table) (call : Call) (new : Table) → new ≡ table_next old call → IsAnswered old call
-    → Extends old call new
-
-abbrev pub GoesOnHearing : Type 0
-GoesOnHearing =
-    (old new : Table) (now : ℕ) (from : Address) (view : View) (rate : Option ℕ) (quick : Bool)
-    (answer : Result Heard Refuse)
-    → Hears old from view.ssrc (packet_of old now view rate quick) answer new → IsAnswer answer
-    → Extends old (Rtp now from view rate quick answer) new
-
-abbrev pub GoesOnNaming : Type 0
-GoesOnNaming =
-    (old new : Table) (ssrc : ℕ) (text : List ℕ) (answer : Named) → Names old ssrc text answer new
-    → Extends old (Sets ssrc text answer) new
 
 -- ---- one source
 

@@ -1,7 +1,9 @@
 pub mod Counting
 pub mod Sources
+pub mod Ranges
 pub mod Table
 pub mod History
 pub mod Probation
 pub mod Answers
 pub mod Validity
+pub mod Limits

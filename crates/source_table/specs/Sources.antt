@@ -1,5 +1,5 @@
 -- A source as the fold of what was heard of it since it was added.
-use Rattle.std.specs.Prelude.{ℕ, ◌-◌, ◌/◌, ◌%◌, ◌==◌, ◌&&◌, ◌||◌, not, nat_lt, nat_le, min, if◌then◌else◌, Bool, true, false, Option, Some, None}
+use Rattle.std.specs.Prelude.{ℕ, ◌-◌, ◌/◌, ◌%◌, ◌==◌, ◌&&◌, ◌||◌, not, nat_lt, nat_le, if◌then◌else◌, Bool, true, false, Option, Some, None}
 use Rattle.rtp_units.specs.Numbers.{ntp_middle_bits, delay_units}
 use Rattle.rtp_units.specs.declared.shared.Address.{Address}
 use Rattle.rtcp_wire.specs.declared.block.ReportBlock.{ReportBlock}
@@ -69,7 +69,7 @@ block_from (Some c) s ssrc now =
       fraction = fraction_of c;
       lost = lost_of c;
       greatest = c.greatest % 4294967296;
-      jitter = min (s.jitter.sixteenths / 16) 4294967295;
+      jitter = s.jitter.sixteenths / 16;
       lsr = middle_of s.report;
       dlsr = delay_of s.report now;
     })

@@ -62,6 +62,15 @@ abbrev pub Takes : Table → ℕ → Address → Option Source → Source → Ty
 Takes t ssrc from None s = (length t.sources < 64) × (s ≡ fresh from)
 Takes t ssrc from (Some k) s = (k.from ≡ from) × (s ≡ k)
 
+-- The source that a packet is heard of, or why it is heard of none.
+abbrev pub IsSourceFrom : Table → ℕ → Address → Result Source Refuse → Type 0
+IsSourceFrom t ssrc from (Ok s) = Takes t ssrc from (kept t ssrc) s
+IsSourceFrom t ssrc from (Err Own) = ⊥
+IsSourceFrom t ssrc from (Err LimitSources) = (kept t ssrc ≡ None) × (64 ≤ length t.sources)
+IsSourceFrom t ssrc from (Err (Collision first other)) =
+    (s : Source) × (kept t ssrc ≡ Some s) × (first ≡ s.from) × (other ≡ from) × (s.from ≡ from → ⊥)
+IsSourceFrom t ssrc from (Err OutOfMemory) = ⊥
+
 -- What hearing a packet answered and left. A refusal leaves the table as it was.
 abbrev pub Hears : Table → Address → ℕ → Packet → Result Heard Refuse → Table → Type 0
 Hears t from ssrc p (Ok heard) new =

@@ -1,5 +1,6 @@
 //! What came of a valid source, and what was lost.
-ghost use Rattle.std.specs.Prelude.{◌≡◌};
+ghost use Rattle.std.specs.Prelude.{◌≡◌, ◌≤◌, ◌<◌, ◌^◌};
+ghost use Rattle.source_table.specs.Ranges.{AreCountsOf};
 ghost use Rattle.source_table.specs.Counting.{counts_begin, count_next, jump_next, expected_of, fraction_of, lost_of, counts_reported};
 
 /// A number this far ahead of the greatest is in order.
@@ -48,14 +49,16 @@ impl Counts {
 
     /// The counts after one packet more.
     pub(crate) fn next(self, seq: u16) -> Counted
+        requires greatest { self.greatest < 2 ^ 63 }
+        requires received { self.received < 2 ^ 63 }
         ensures { result ≡ count_next self seq }
     {
         let ahead = (u64::from(seq) + 65536 - self.greatest % 65536) % 65536;
         if ahead < MAX_DROPOUT {
             return Counted {
                 counts: Counts {
-                    greatest: self.greatest.saturating_add(ahead),
-                    received: self.received.saturating_add(1),
+                    greatest: self.greatest + ahead,
+                    received: self.received + 1,
                     ..self
                 },
                 counted: true,
@@ -64,7 +67,7 @@ impl Counts {
         if ahead > LAST_JUMP {
             return Counted {
                 counts: Counts {
-                    received: self.received.saturating_add(1),
+                    received: self.received + 1,
                     ..self
                 },
                 counted: true,
@@ -94,13 +97,16 @@ impl Counts {
 
     /// How many packets the numbers tell of.
     fn expected(self) -> u64
+        requires base { self.base ≤ self.greatest }
+        requires greatest { self.greatest < 2 ^ 63 }
         ensures { result ≡ expected_of self }
     {
-        self.greatest.saturating_sub(self.base).saturating_add(1)
+        self.greatest - self.base + 1
     }
 
     /// Expected less received, held to 24 bits with a sign.
     pub(crate) fn lost(self) -> i32
+        requires { AreCountsOf (2 ^ 40) self }
         ensures { result ≡ lost_of self }
     {
         let expected = self.expected();
@@ -113,6 +119,7 @@ impl Counts {
 
     /// The share lost since the last block, in 256ths.
     pub(crate) fn fraction(self) -> u8
+        requires { AreCountsOf (2 ^ 40) self }
         ensures { result ≡ fraction_of self }
     {
         let expected = self.expected().saturating_sub(self.prior_expected);
@@ -120,11 +127,12 @@ impl Counts {
         if expected <= received {
             return 0;
         }
-        (u128::from(expected - received) * 256 / u128::from(expected)).min(255) as u8
+        (u128::from(expected - received) * 256 / u128::from(expected)) as u8
     }
 
     /// The counts once a block was made.
     pub(crate) fn reported(self) -> Counts
+        requires { AreCountsOf (2 ^ 40) self }
         ensures { result ≡ counts_reported self }
     {
         Counts {

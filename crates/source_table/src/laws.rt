@@ -1,7 +1,8 @@
 //! Laws of a table. Each function's contract holds of every list of calls; the functions do nothing.
 ghost use Rattle.source_table.specs.Answers.{IsOneHearing, IsOneNaming};
-ghost use Rattle.source_table.specs.History.{BeginsEmpty, GoesOn, GoesOnHearing, GoesOnNaming, IsIsolated, IsNamedIfKept};
+ghost use Rattle.source_table.specs.History.{IsIsolated, IsNamedIfKept};
 ghost use Rattle.source_table.specs.Probation.{IsRunLength};
+ghost use Rattle.source_table.specs.Limits.{StayInRange, FitTheirFields};
 ghost use Rattle.source_table.specs.Validity.{IsValidByRun, IsValidFromRun};
 
 /// What a table tells of a source, its name included, is what the calls on that source alone leave, since it
@@ -31,12 +32,10 @@ pub fn tables_have_one_answer()
     ensures name { IsOneNaming }
 {}
 
-/// A new table stands for no call. A table that becomes what a call makes of it, where its answer is the
-/// table's, stands for the calls before with this one more. What the clauses of the methods say of a packet,
-/// unless memory was refused, and of a name is that.
-pub fn goes_on()
-    ensures new { BeginsEmpty }
-    ensures call { GoesOn }
-    ensures packet { GoesOnHearing }
-    ensures name { GoesOnNaming }
+/// After at most 2^40 packets no count of a source comes near the end of 64 bits: it heard no more than
+/// the table, and each of its numbers was at most 2999 above the greatest before. The share lost fits
+/// 8 bits and the jitter 32.
+pub fn counts_stay_small()
+    ensures counts { StayInRange }
+    ensures block { FitTheirFields }
 {}

@@ -1,8 +1,9 @@
 //! The maps of a table, by their entries in order.
-ghost use Rattle.std.specs.Prelude.{◌≡◌, ◌↔◌, ◌<◌, nat_eq, not, map, filter, filter_map, length, slice_get, IsSome, IsTrue, IfOk, OnErr, OnOk, Some};
+ghost use Rattle.std.specs.Prelude.{◌≡◌, ◌↔◌, ◌<◌, ◌^◌, nat_eq, not, map, filter, filter_map, length, slice_get, IsSome, IsTrue, IfOk, OnErr, OnOk, Some};
 ghost use Rattle.std.specs.Map.{lookup};
 ghost use Rattle.std.specs.List.{list_any};
 ghost use Rattle.indexmap.specs.IndexMap.{insert_entry};
+ghost use Rattle.source_table.specs.Ranges.{AreSourcesOf};
 ghost use Rattle.source_table.specs.Sources.{is_gone, block_of, reported};
 
 use crate::source::Source;
@@ -108,18 +109,22 @@ pub(crate) fn blocks_of(
     sources: &IndexMap<u32, Source>,
     now: u64,
 ) -> Result<Vec<ReportBlock>, OutOfMemory>
+    requires { AreSourcesOf (2 ^ 40) sources.now.entries }
     ensures { IfOk result (λ blocks. blocks.items ≡ filter_map (λ e. block_of e.1 e.0 now) sources.now.entries) }
 {
-    Ok(
-        sources
-            .iter()
-            .filter_map(|(ssrc, source)| source.block(*ssrc, now))
-            .collect(alloc)?,
-    )
+    let mut blocks = Vec::new(alloc);
+    for i in 0..sources.len() {
+        let (ssrc, source) = entry_at(sources, i);
+        if let Some(block) = source.block(ssrc, now) {
+            blocks.push(block)?;
+        }
+    }
+    Ok(blocks)
 }
 
 /// Begins a new interval of each source that had a block.
 pub(crate) fn begin_intervals(sources: &mut IndexMap<u32, Source>)
+    requires { AreSourcesOf (2 ^ 40) sources.old.entries }
     ensures { sources.new.entries ≡ map (λ e. (e.0, reported e.1)) sources.old.entries }
 {
     sources.retain(|_ssrc, source| {

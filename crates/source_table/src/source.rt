@@ -1,5 +1,6 @@
 //! One source: what was heard of it since it was added.
-ghost use Rattle.std.specs.Prelude.{◌≡◌, ◌≤◌};
+ghost use Rattle.std.specs.Prelude.{◌≡◌, ◌≤◌, ◌^◌};
+ghost use Rattle.source_table.specs.Ranges.{IsSourceOf};
 ghost use Rattle.source_table.specs.Sources.{fresh, hear_next, hear_answer, report_next, left_next, block_of, reported, is_gone as gone};
 
 use crate::counts::Counts;
@@ -90,6 +91,7 @@ impl Source {
 
     /// The source after a packet.
     pub(crate) fn heard(&self, packet: &Packet) -> Source
+        requires { IsSourceOf (2 ^ 40) self.now }
         ensures { result ≡ hear_next self.now packet.now }
     {
         let run = self.run.next(packet.seq);
@@ -141,6 +143,7 @@ impl Source {
 
     /// What a report tells of the source, if it is valid and spoke since its last block.
     pub(crate) fn block(&self, ssrc: u32, now: u64) -> Option<ReportBlock>
+        requires { IsSourceOf (2 ^ 40) self.now }
         ensures { result ≡ block_of self.now ssrc now }
     {
         let counts = self.counts?;
@@ -156,7 +159,7 @@ impl Source {
             fraction: counts.fraction(),
             lost: counts.lost(),
             greatest: (counts.greatest % 4294967296) as u32,
-            jitter: (self.jitter.sixteenths / 16).min(4294967295) as u32,
+            jitter: (self.jitter.sixteenths / 16) as u32,
             lsr,
             dlsr: delay,
         })
@@ -164,6 +167,7 @@ impl Source {
 
     /// The source once a block of it was made.
     pub(crate) fn after_block(&self) -> Source
+        requires { IsSourceOf (2 ^ 40) self.now }
         ensures { result ≡ reported self.now }
     {
         match self.counts {

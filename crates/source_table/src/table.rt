@@ -1,7 +1,10 @@
 //! The table of a session.
-ghost use Rattle.std.specs.Prelude.{◌≡◌, ◌<◌, ◌≤◌, ◌^◌, ℕ, nat_eq, length, is_some, IfOk, OnErr, option_map};
+ghost use Rattle.std.specs.Prelude.{◌≡◌, ◌<◌, ◌≤◌, ◌^◌, ℕ, List, [], nat_eq, length, is_some, IfOk, OnOk, OnErr, option_map};
+ghost use Rattle.source_table.specs.Answers.{IsAnswer};
+ghost use Rattle.source_table.specs.Ranges.{IsSourceOf};
+ghost use Rattle.source_table.specs.History.{Call, Rtp, Reports, Leaves, Sets, Block, Blocks, Expires, StandsFor, Extends, alone, told_name};
 ghost use Rattle.source_table.specs.Sources.{report_next, left_next, reported};
-ghost use Rattle.source_table.specs.Table.{Table, empty, kept, name_of, packet_of, changed, Hears, Names, gone, expired, block_in, blocks, all_reported};
+ghost use Rattle.source_table.specs.Table.{Table, empty, kept, name_of, packet_of, changed, needed, IsSourceFrom, Hears, Names, gone, expired, block_in, blocks, all_reported};
 ghost use Rattle.rtcp_wire.specs.Written.{LossFits};
 ghost use Rattle.std.specs.List.{AllByRecursion};
 
@@ -32,18 +35,22 @@ pub struct SourceTable {
 }
 
 impl Model for SourceTable {
+    ghost use Rattle.source_table.specs.Ranges.{AreInRange};
     ghost use Rattle.source_table.specs.Table.{Table};
 
     ghost Value = { Table };
 
     ghost view = { λ t. record { own = t.own; probation = t.probation; heard = t.heard; sources = t.sources.entries; names = t.names.entries } };
+
+    ghost invariant = { λ t. AreInRange t.heard t.sources.entries };
 }
 
 impl SourceTable {
     /// An empty table of a session with this SSRC. `probation` is how many consecutive packets make a
     /// source valid; 0 and 1 mean at once.
     pub fn new(alloc: Global, own: u32, probation: u8) -> Result<SourceTable, OutOfMemory>
-        ensures { IfOk result (λ t. t ≡ empty own probation) }
+        ensures empty { IfOk result (λ t. t ≡ empty own probation) }
+        ensures stands { IfOk result (λ t. StandsFor t own probation []) }
     {
         Ok(SourceTable {
             own,
@@ -72,35 +79,22 @@ impl SourceTable {
         quick: bool,
     ) -> Result<Heard, Refuse>
         requires { self.old.heard < 2 ^ 40 }
-        ensures { Hears self.old from view.now.ssrc (packet_of self.old now view.now rate quick) result self.new }
+        ensures answer { Hears self.old from view.now.ssrc
+            (packet_of self.old now view.now rate quick) result self.new }
+        ensures stands { IsAnswer result
+            → Extends self.old (Rtp now from view.now rate quick result) self.new }
     {
         let ssrc = view.ssrc();
         if ssrc == self.own {
             return Err(Refuse::Own);
         }
+        let source = self.source_from(ssrc, from)?;
         let packet = Packet {
             arrival: now,
             seq: view.seq(),
             timestamp: view.timestamp(),
             rate,
-            needed: if quick { 1 } else { self.probation.max(1) },
-        };
-        let source = match self.sources.get(&ssrc) {
-            Some(source) => {
-                if !same_address(&source.from, &from) {
-                    return Err(Refuse::Collision {
-                        kept: source.from,
-                        new: from,
-                    });
-                }
-                *source
-            }
-            None => {
-                if self.sources.len() >= MAX_SOURCES {
-                    return Err(Refuse::LimitSources);
-                }
-                Source::new(from)
-            }
+            needed: self.packets_needed(quick),
         };
         match put(&mut self.sources, ssrc, source.heard(&packet)) {
             Ok(()) => {}
@@ -110,10 +104,35 @@ impl SourceTable {
         Ok(source.answer(&packet))
     }
 
+    /// How many consecutive packets make a source valid.
+    fn packets_needed(&self, quick: bool) -> u8
+        ensures { result ≡ needed self.now quick }
+    {
+        if quick { 1 } else { self.probation.max(1) }
+    }
+
+    /// The source that a packet from this address is heard of: the kept one, or a new one where
+    /// there is room.
+    fn source_from(&self, ssrc: u32, from: Address) -> Result<Source, Refuse>
+        ensures source { IsSourceFrom self.now ssrc from result }
+        ensures range { IfOk result (IsSourceOf self.now.heard) }
+    {
+        match self.sources.get(&ssrc) {
+            Some(source) if same_address(&source.from, &from) => Ok(*source),
+            Some(source) => Err(Refuse::Collision {
+                kept: source.from,
+                new: from,
+            }),
+            None if self.sources.len() < MAX_SOURCES => Ok(Source::new(from)),
+            None => Err(Refuse::LimitSources),
+        }
+    }
+
     /// Hears a sender report with this NTP timestamp. False where the source is not kept.
     pub fn hear_sr(&mut self, now: u64, ssrc: u32, seconds: u32, fraction: u32) -> bool
         ensures value { result ≡ is_some (kept self.old ssrc) }
         ensures after { self.new ≡ changed self.old ssrc (λ s. report_next s now seconds fraction) }
+        ensures stands { Extends self.old (Reports now ssrc seconds fraction) self.new }
     {
         match self.sources.get(&ssrc) {
             None => false,
@@ -129,6 +148,7 @@ impl SourceTable {
     pub fn hear_bye(&mut self, ssrc: u32) -> bool
         ensures value { result ≡ is_some (kept self.old ssrc) }
         ensures after { self.new ≡ changed self.old ssrc left_next }
+        ensures stands { Extends self.old (Leaves ssrc) self.new }
     {
         match self.sources.get(&ssrc) {
             None => false,
@@ -145,7 +165,11 @@ impl SourceTable {
 
     /// The name of a source, where it is kept and has one.
     pub fn cname(&self, ssrc: u32) -> Option<&[u8]>
-        ensures { option_map (λ text. text.now) result ≡ name_of self.now ssrc }
+        ensures value { option_map (λ text. text.now) result ≡ name_of self.now ssrc }
+        // It is what the calls on this source alone left, whatever came of others.
+        ensures told { (own probation : ℕ) (calls : List Call)
+            → StandsFor self.now own probation calls
+            → option_map (λ text. text.now) result ≡ told_name (alone probation ssrc calls) }
     {
         match self.names.get(&ssrc) {
             None => None,
@@ -158,6 +182,7 @@ impl SourceTable {
     pub fn block(&mut self, ssrc: u32, now: u64) -> Option<ReportBlock>
         ensures value { result ≡ block_in (kept self.old ssrc) ssrc now }
         ensures after { self.new ≡ changed self.old ssrc reported }
+        ensures stands { Extends self.old (Block ssrc now) self.new }
     {
         match self.sources.get(&ssrc) {
             None => None,
@@ -174,6 +199,7 @@ impl SourceTable {
     /// blocks begin new intervals. After a refusal the table is as before.
     pub fn blocks(&mut self, alloc: Global, now: u64) -> Result<Vec<ReportBlock>, OutOfMemory>
         ensures ok { IfOk result (λ list. (list.items ≡ blocks self.old now) × (self.new ≡ all_reported self.old)) }
+        ensures stands { OnOk result (Extends self.old (Blocks now) self.new) }
         // A report block has 24 bits for the loss.
         ensures fits { IfOk result (λ list. AllByRecursion LossFits list.items) }
         ensures err { OnErr result (self.new ≡ self.old) }
@@ -187,6 +213,8 @@ impl SourceTable {
     pub fn set_cname(&mut self, alloc: Global, ssrc: u32, text: &[u8]) -> Result<Named, OutOfMemory>
         requires { length text.now ≤ 255 }
         ensures ok { IfOk result (λ named. Names self.old ssrc text.now named self.new) }
+        ensures stands { IfOk result (λ named.
+            Extends self.old (Sets ssrc text.now named) self.new) }
         ensures err { OnErr result (self.new ≡ self.old) }
     {
         if !self.sources.contains_key(&ssrc) {
@@ -203,6 +231,7 @@ impl SourceTable {
     /// `timeout` before `now`, and gives their SSRCs in table order. After a refusal the table is as before.
     pub fn expire(&mut self, alloc: Global, now: u64, timeout: u64) -> Result<Vec<u32>, OutOfMemory>
         ensures ok { IfOk result (λ ssrcs. (ssrcs.items ≡ gone self.old now timeout) × (self.new ≡ expired self.old now timeout)) }
+        ensures stands { OnOk result (Extends self.old (Expires now timeout) self.new) }
         ensures err { OnErr result (self.new ≡ self.old) }
     {
         let ssrcs = gone_of(alloc, &self.sources, now, timeout)?;

@@ -1,5 +1,6 @@
 use Rattle.std.proofs.Common.{◌∷◌, ◌∙◌, sym, arith}
 use Rattle.jitter_model.specs.declared.Entry.TheVariants.{Push}
+use Rattle.jitter_core.proofs.Filling.{can_fill}
 use Rattle.jitter_core.proofs.Following.{is_next, next_top, next_from, next_range, next_timers}
 use Rattle.jitter_core.proofs.Passing.{pusher_small}
 use Rattle.jitter_core.proofs.Pushes.{push_keeps}
@@ -45,3 +46,10 @@ retime-requires-clause-follows g c = λ e v fresh.
       within = next_range c.args.state.now c.push_packet-pushed.new.state c.args.a c.push_packet-pushed.result.number c.args.schedule.now.timers.times b x right;
       others = next_timers c.args.state.now c.push_packet-pushed.new.state c.args.a c.push_packet-pushed.result.number c.args.schedule.now.timers.times b x right;
     }
+
+pub retime-requires-clause-fills : goal.retime-requires-clause-fills
+retime-requires-clause-fills g c = λ e v fresh.
+    can_fill c.args.state.now c.push_packet-pushed.new.state c.args.a c.push_packet-pushed.result
+    c.args.schedule.now.timers.times
+    (reached_bounded c.args.state.now c.requires.reached) c.push_packet-pushed.ensures v e
+    (c.requires.timed.right fresh)

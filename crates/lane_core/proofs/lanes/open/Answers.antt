@@ -18,6 +18,7 @@ returns-clause-adds c =
       ssrc_is = c.begin.ensures.stays.ssrc ∙ c.in_ok-lane.ensures.ssrc_is;
       settings = c.begin.ensures.stays.settings ∙ c.in_ok-lane.ensures.settings;
       pushes = c.begin.ensures.stays.pushes ∙ c.in_ok-lane.ensures.pushes;
+      wake_is = c.begin.ensures.wake ∙ c.in_ok-lane.ensures.wake;
     })
     c.add.ensures.ok
 

@@ -19,9 +19,16 @@ loop-captured-preserved c =
       count = c.in_ok-take.ensures.records ∙ ap (λ (n : ℕ). n + 1) c.loop-captured.invariant.count;
     }
 
-pub returns : goal.returns
-returns c =
+pub returns-clause-plan : goal.returns-clause-plan
+returns-clause-plan c =
     let xs = c.args.records.now in
     let all : length xs ≤ c.loop-captured.captured-index = omega arith in
     c.finish.ensures.plan (map (record_view c.args.link) xs)
+    (subst (λ (ys : List PcapRecord). HasTaken c.args.script.now (map (record_view c.args.link) ys) c.loop-captured.builder) (take_all c.loop-captured.captured-index xs all) c.loop-captured.invariant.taken)
+
+pub returns-clause-course : goal.returns-clause-course
+returns-clause-course c =
+    let xs = c.args.records.now in
+    let all : length xs ≤ c.loop-captured.captured-index = omega arith in
+    c.finish.ensures.course (map (record_view c.args.link) xs)
     (subst (λ (ys : List PcapRecord). HasTaken c.args.script.now (map (record_view c.args.link) ys) c.loop-captured.builder) (take_all c.loop-captured.captured-index xs all) c.loop-captured.invariant.taken)

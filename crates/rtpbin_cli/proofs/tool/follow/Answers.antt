@@ -2,14 +2,20 @@ use Rattle.std.proofs.Common.{ap, refl}
 use Rattle.rtp_io.specs.Laws.{same_then, told_then}
 use Rattle.rtpbin_cli.specs.Words.{Scripted}
 use Rattle.rtpbin_cli.specs.Commands.{scripted_by, scripted_output}
-use Rattle.rtpbin_cli.proofs.Scripts.{BeginsNoCapture}
+use Rattle.rtpbin_cli.proofs.Scripts.{BeginsNoCapture, IsScript}
+use Rattle.rtpbin_cli.proofs.Sections.{no_section}
 use Rattle.rtpbin_cli.proofs.Forms.{covers_of_form}
 use Rattle.rtpbin_cli.proofs.Running.{script_stops, open_fails, capture_runs}
 use Rattle.rtpbin_cli.proofs.tool.follow.Goals as goal
 
 pub returns-in-Err-clause-runs : goal.returns-in-Err-clause-runs
 returns-in-Err-clause-runs g c = λ told.
-    let law : BeginsNoCapture = record { big = c.begins_no_capture.ensures.big; little = c.begins_no_capture.ensures.little; nano = c.begins_no_capture.ensures.nano } in
+    let law : BeginsNoCapture IsScript = record {
+      big = λ xs is. c.begins_no_capture.ensures.big xs is.0 is.1;
+      little = λ xs is. c.begins_no_capture.ensures.little xs is.0 is.1;
+      nano = λ xs is. c.begins_no_capture.ensures.nano xs is.0 is.1;
+      section = λ xs is. no_section xs is.0 is.1;
+    } in
     script_stops law c.args.way c.args.capture.now c.args.script.now c.in-Err.stop _ _ _ c.read_script.ensures.same c.in-Err.ensures.after told
 
 pub returns-in-Ok-open_file-clause-runs : goal.returns-in-Ok-open_file-clause-runs

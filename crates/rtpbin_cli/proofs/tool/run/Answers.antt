@@ -1,18 +1,16 @@
-use Rattle.std.proofs.Common.{subst, refl, Option, Err}
-use Rattle.command_core.specs.declared.stop.Stop.TheVariants as stop
-use Rattle.rtpbin_cli.specs.Words.{Form, Dump}
-use Rattle.dump_command.specs.Dump.{dump_output}
+use Rattle.std.proofs.Common.{subst, Option}
+use Rattle.rtpbin_cli.specs.Words.{Form}
 use Rattle.rtpbin_cli.specs.Outcome.{Knows, wanted}
-use Rattle.rtpbin_cli.specs.Steps.{Runs}
-use Rattle.rtpbin_cli.proofs.Forms.{no_usage, covers_no_usage, prints_of_form, prints_stop}
+use Rattle.rtpbin_cli.specs.Steps.{IsUsage, RunsAny}
 use Rattle.rtpbin_cli.specs.Commands.{generated_text}
-use Rattle.rtpbin_cli.proofs.Running.{open_fails, capture_runs, generated_runs}
+use Rattle.rtpbin_cli.proofs.Forms.{no_usage, prints_of_form, prints_stop, cause_any}
+use Rattle.rtpbin_cli.proofs.Running.{generated_runs, runs_any}
 use Rattle.rtpbin_cli.proofs.tool.run.Goals as goal
 
 pub returns-in-Some-Scripted-clause-usage : goal.returns-in-Some-Scripted-clause-usage
 returns-in-Some-Scripted-clause-usage g c =
     let e = rw c.in-Some-Scripted.field-0-is at c.in-Some-Scripted.ensures.form in
-    no_usage c.follow.result _ _ e c.follow.ensures.of_form
+    rw c.stopped.ensures (no_usage c.follow.result _ _ e c.follow.ensures.of_form)
 
 pub returns-in-Some-Scripted-clause-runs : goal.returns-in-Some-Scripted-clause-runs
 returns-in-Some-Scripted-clause-runs g c =
@@ -21,43 +19,52 @@ returns-in-Some-Scripted-clause-runs g c =
     let w = g.O.Sink.written c.args.out.now in
     let w' = g.O.Sink.written c.follow.new.out in
     let e = rw c.in-Some-Scripted.field-0-is at c.in-Some-Scripted.ensures.form in
-    subst (λ (f : Option Form). Knows f before → Runs c.follow.result (wanted before.contents f) f after w w') e (λ knows. c.follow.ensures.runs knows)
+    subst (λ (f : Option Form). Knows f before → RunsAny c.stopped.result (wanted before.contents f) f after w w') e
+    (λ knows. rw c.stopped.ensures (runs_any c.follow.result _ _ _ _ _ (c.follow.ensures.runs knows)))
 
-pub returns-in-Ok-clause-usage : goal.returns-in-Ok-clause-usage
-returns-in-Ok-clause-usage g c =
-    let e = rw c.in-Some-Dump.field-0-is at c.in-Some-Dump.ensures.form in
-    covers_no_usage dump_output c.dump_open.result _ _ (g.F.Files.disk c.open_file.new.self) (g.F.Files.disk c.dump_open.new.files) (g.O.Sink.written c.args.out.now) (g.O.Sink.written c.dump_open.new.out) e c.dump_open.ensures.covers
+pub returns-in-Some-Scripted-clause-cause : goal.returns-in-Some-Scripted-clause-cause
+returns-in-Some-Scripted-clause-cause g c =
+    rw c.stopped.ensures (cause_any c.follow.result _ _ _ _ c.follow.ensures.cause)
 
-pub returns-in-Ok-clause-runs : goal.returns-in-Ok-clause-runs
-returns-in-Ok-clause-runs g c =
+pub returns-in-Some-Described-clause-usage : goal.returns-in-Some-Described-clause-usage
+returns-in-Some-Described-clause-usage g c =
+    let e = rw c.in-Some-Described.field-0-is at c.in-Some-Described.ensures.form in
+    subst (λ (f : Option Form). IsUsage c.follow_described.result f) e c.follow_described.ensures.usage
+
+pub returns-in-Some-Described-clause-runs : goal.returns-in-Some-Described-clause-runs
+returns-in-Some-Described-clause-runs g c =
     let before = g.F.Files.disk c.args.files.now in
-    let start = g.F.Files.disk c.open_file.new.self in
-    let after = g.F.Files.disk c.dump_open.new.files in
+    let after = g.F.Files.disk c.follow_described.new.files in
     let w = g.O.Sink.written c.args.out.now in
-    let w' = g.O.Sink.written c.dump_open.new.out in
-    let e = rw c.in-Some-Dump.field-0-is at c.in-Some-Dump.ensures.form in
-    subst (λ (f : Option Form). Knows f before → Runs c.dump_open.result (wanted before.contents f) f after w w') e
-    (λ knows. let told = knows in capture_runs (Dump c.in-Some-Dump.capture.now) (λ contents. refl) dump_output c.dump_open.result before start after w w' told c.open_file.ensures.same c.dump_open.ensures.same refl (c.in-Ok.ensures.opened told) c.dump_open.ensures.opened c.dump_open.ensures.covers)
+    let w' = g.O.Sink.written c.follow_described.new.out in
+    let e = rw c.in-Some-Described.field-0-is at c.in-Some-Described.ensures.form in
+    subst (λ (f : Option Form). Knows f before → RunsAny c.follow_described.result (wanted before.contents f) f after w w') e
+    (λ knows. c.follow_described.ensures.runs knows)
 
-pub returns-in-Err-clause-usage : goal.returns-in-Err-clause-usage
-returns-in-Err-clause-usage g c =
+pub returns-in-Some-Dump-clause-usage : goal.returns-in-Some-Dump-clause-usage
+returns-in-Some-Dump-clause-usage g c =
     let e = rw c.in-Some-Dump.field-0-is at c.in-Some-Dump.ensures.form in
-    no_usage (Err stop.Read) _ _ e tt
+    rw c.stopped-in-Some-Dump.ensures (no_usage c.dump_capture.result _ _ e c.dump_capture.ensures.of_form)
 
-pub returns-in-Err-clause-runs : goal.returns-in-Err-clause-runs
-returns-in-Err-clause-runs g c =
+pub returns-in-Some-Dump-clause-runs : goal.returns-in-Some-Dump-clause-runs
+returns-in-Some-Dump-clause-runs g c =
     let before = g.F.Files.disk c.args.files.now in
-    let after = g.F.Files.disk c.open_file.new.self in
+    let after = g.F.Files.disk c.dump_capture.new.files in
     let w = g.O.Sink.written c.args.out.now in
+    let w' = g.O.Sink.written c.dump_capture.new.out in
     let e = rw c.in-Some-Dump.field-0-is at c.in-Some-Dump.ensures.form in
-    subst (λ (f : Option Form). Knows f before → Runs (Err stop.Read) (wanted before.contents f) f after w w) e
-    (λ knows. open_fails (Dump c.in-Some-Dump.capture.now) after w (c.in-Err.ensures.closed knows))
+    subst (λ (f : Option Form). Knows f before → RunsAny c.stopped-in-Some-Dump.result (wanted before.contents f) f after w w') e
+    (λ knows. rw c.stopped-in-Some-Dump.ensures (runs_any c.dump_capture.result _ _ _ _ _ (c.dump_capture.ensures.runs knows)))
+
+pub returns-in-Some-Dump-clause-cause : goal.returns-in-Some-Dump-clause-cause
+returns-in-Some-Dump-clause-cause g c =
+    rw c.stopped-in-Some-Dump.ensures (cause_any c.dump_capture.result _ _ _ _ c.dump_capture.ensures.cause)
 
 pub returns-in-Some-Gen-clause-usage : goal.returns-in-Some-Gen-clause-usage
 returns-in-Some-Gen-clause-usage g c =
     let e = rw c.in-Some-Gen.field-0-is at c.in-Some-Gen.ensures.form in
-    no_usage c.print_generated.result _ _ e
-    (prints_of_form (generated_text c.in-Some-Gen.first c.in-Some-Gen.count) c.print_generated.result _ _ _ _ c.print_generated.ensures)
+    rw c.stopped-in-Some-Gen.ensures (no_usage c.print_generated.result _ _ e
+    (prints_of_form (generated_text c.in-Some-Gen.first c.in-Some-Gen.count) c.print_generated.result _ _ _ _ c.print_generated.ensures))
 
 pub returns-in-Some-Gen-clause-runs : goal.returns-in-Some-Gen-clause-runs
 returns-in-Some-Gen-clause-runs g c =
@@ -65,9 +72,11 @@ returns-in-Some-Gen-clause-runs g c =
     let w = g.O.Sink.written c.args.out.now in
     let w' = g.O.Sink.written c.print_generated.new.out in
     let e = rw c.in-Some-Gen.field-0-is at c.in-Some-Gen.ensures.form in
-    subst (λ (f : Option Form). Knows f before → Runs c.print_generated.result (wanted before.contents f) f before w w') e
-    (λ knows. generated_runs c.in-Some-Gen.first c.in-Some-Gen.count c.print_generated.result before before w w' _ _ c.print_generated.ensures)
+    subst (λ (f : Option Form). Knows f before → RunsAny c.stopped-in-Some-Gen.result (wanted before.contents f) f before w w') e
+    (λ knows. rw c.stopped-in-Some-Gen.ensures (runs_any c.print_generated.result _ _ _ _ _
+    (generated_runs c.in-Some-Gen.first c.in-Some-Gen.count c.print_generated.result before before w w' _ _ c.print_generated.ensures)))
 
 pub returns-in-Some-Gen-clause-cause : goal.returns-in-Some-Gen-clause-cause
 returns-in-Some-Gen-clause-cause g c =
-    prints_stop (generated_text c.in-Some-Gen.first c.in-Some-Gen.count) c.print_generated.result _ _ _ _ _ c.print_generated.ensures
+    rw c.stopped-in-Some-Gen.ensures (cause_any c.print_generated.result _ _ _ _
+    (prints_stop (generated_text c.in-Some-Gen.first c.in-Some-Gen.count) c.print_generated.result _ _ _ _ _ c.print_generated.ensures))

@@ -3,16 +3,16 @@ use Rattle.rtpbin_cli.proofs.Ending.{out_ends, few_ends, err_ends, text_ends}
 use Rattle.rtpbin_cli.proofs.tool.run_tool.Goals as goal
 
 pub returns-in-Err-clause-taken : goal.returns-in-Err-clause-taken
-returns-in-Err-clause-taken g c = taken c.in-Err.stop c.report.result _ _ _ _ _ _ _ _ c.in-Err.ensures.cause c.report.ensures
+returns-in-Err-clause-taken g c = taken c.in-Err.failure c.report.result _ _ _ _ _ _ _ _ c.in-Err.ensures.cause c.report.ensures
 
 pub returns-in-Err-clause-out : goal.returns-in-Err-clause-out
-returns-in-Err-clause-out g c = λ knows. out_ends c.in-Err.stop c.report.result _ _ _ _ _ _ _ _ _ (c.in-Err.ensures.runs knows) c.report.ensures
+returns-in-Err-clause-out g c = λ knows. out_ends c.in-Err.failure c.report.result _ _ _ _ _ _ _ _ _ (c.in-Err.ensures.runs knows) c.report.ensures
 
 pub returns-in-Err-clause-err : goal.returns-in-Err-clause-err
-returns-in-Err-clause-err g c = λ knows. err_ends c.in-Err.stop c.report.result _ _ _ _ _ _ _ _ _ _ _ _ _ (c.in-Err.ensures.runs knows) c.in-Err.ensures.cause c.report.ensures
+returns-in-Err-clause-err g c = λ knows. err_ends c.in-Err.failure c.report.result _ _ _ _ _ _ _ _ _ _ _ _ _ (c.in-Err.ensures.runs knows) c.in-Err.ensures.cause c.report.ensures
 
 pub returns-in-Err-clause-text : goal.returns-in-Err-clause-text
-returns-in-Err-clause-text g c = text_ends c.in-Err.stop c.report.result _ _ _ _ _ _ _ _ _ c.in-Err.ensures.usage c.in-Err.ensures.cause c.report.ensures
+returns-in-Err-clause-text g c = text_ends c.in-Err.failure c.report.result _ _ _ _ _ _ _ _ _ c.in-Err.ensures.usage c.in-Err.ensures.cause c.report.ensures
 
 pub returns-in-Err-clause-few : goal.returns-in-Err-clause-few
-returns-in-Err-clause-few g c = λ knows lt. few_ends c.in-Err.stop _ _ _ _ _ _ _ _ _ (c.in-Err.ensures.runs knows) c.in-Err.ensures.cause lt
+returns-in-Err-clause-few g c = λ knows lt. few_ends c.in-Err.failure _ _ _ _ _ _ _ _ _ (c.in-Err.ensures.runs knows) c.in-Err.ensures.cause lt

@@ -20,8 +20,8 @@ tick-requires-clause-lane c =
       | else-reports w ↦ w.report-is ∙ sym (ap (λ b. report_by b next) w.if-reports.false)
     ] in
     let found : c.up_to.result ≡ up_to c.args.limit (earlier (report_by c.args.reports next) (first_wake (wakes_in ls) (length ls))) =
-    c.up_to.ensures ∙ ap (up_to c.args.limit) (c.earlier.ensures ∙ ap (λ (r : Option ℕ). earlier r c.first_wake.result) report
-    ∙ ap (earlier (report_by c.args.reports next)) (c.first_wake.ensures ∙ ap (λ (xs : List Lane). first_wake (wakes_in xs) (length xs)) c.as_slice.ensures.value)) in
+    c.up_to.ensures ∙ ap (up_to c.args.limit) (c.earlier.ensures ∙ ap (λ (r : Option ℕ). earlier r c.next_turn.result) report
+    ∙ ap (earlier (report_by c.args.reports next)) c.next_turn.ensures) in
     let at : c.up_to.result ≡ Some (due.Turns c.in-Some-Turns.wake) = c.in-Some-Turns.is ∙ ap (λ (d : Due). Some d) c.in-Some-Turns.field-0-is in
     let is : IsTurn ls c.args.limit c.in-Some-Turns.wake = turn_is (report_by c.args.reports next) ls c.args.limit c.in-Some-Turns.wake (sym found ∙ at) in
     is.below
@@ -36,8 +36,8 @@ report-requires-clause-time c =
       | else-reports w ↦ w.report-is ∙ sym (ap (λ b. report_by b next) w.if-reports.false)
     ] in
     let found : c.up_to.result ≡ up_to c.args.limit (earlier (report_by c.args.reports next) (first_wake (wakes_in ls) (length ls))) =
-    c.up_to.ensures ∙ ap (up_to c.args.limit) (c.earlier.ensures ∙ ap (λ (r : Option ℕ). earlier r c.first_wake.result) report
-    ∙ ap (earlier (report_by c.args.reports next)) (c.first_wake.ensures ∙ ap (λ (xs : List Lane). first_wake (wakes_in xs) (length xs)) c.as_slice.ensures.value)) in
+    c.up_to.ensures ∙ ap (up_to c.args.limit) (c.earlier.ensures ∙ ap (λ (r : Option ℕ). earlier r c.next_turn.result) report
+    ∙ ap (earlier (report_by c.args.reports next)) c.next_turn.ensures) in
     let at : c.up_to.result ≡ Some (due.Reports c.in-Some-Reports.time) = c.in-Some-Reports.is ∙ ap (λ (d : Due). Some d) c.in-Some-Reports.field-0-is in
     let is : IsReport c.args.reports next c.args.limit c.in-Some-Reports.time = report_is c.args.reports next (first_wake (wakes_in ls) (length ls)) c.args.limit c.in-Some-Reports.time (sym found ∙ at) in
     omega (arith, is.le, c.requires.limit)
@@ -52,8 +52,8 @@ returns-in-None-clause-none c =
       | else-reports w ↦ w.report-is ∙ sym (ap (λ b. report_by b next) w.if-reports.false)
     ] in
     let found : c.up_to.result ≡ up_to c.args.limit (earlier (report_by c.args.reports next) (first_wake (wakes_in ls) (length ls))) =
-    c.up_to.ensures ∙ ap (up_to c.args.limit) (c.earlier.ensures ∙ ap (λ (r : Option ℕ). earlier r c.first_wake.result) report
-    ∙ ap (earlier (report_by c.args.reports next)) (c.first_wake.ensures ∙ ap (λ (xs : List Lane). first_wake (wakes_in xs) (length xs)) c.as_slice.ensures.value)) in
+    c.up_to.ensures ∙ ap (up_to c.args.limit) (c.earlier.ensures ∙ ap (λ (r : Option ℕ). earlier r c.next_turn.result) report
+    ∙ ap (earlier (report_by c.args.reports next)) c.next_turn.ensures) in
     λ e k base tl h. (due_by k base c.args.self.now c.args.lines.now tl c.args.reports c.args.limit h ∙ sym found ∙ c.in-None.is, h)
 
 pub returns-in_ok-report-in-Some-Reports-clause-fewer : goal.returns-in_ok-report-in-Some-Reports-clause-fewer
@@ -66,8 +66,8 @@ returns-in_ok-report-in-Some-Reports-clause-fewer c =
       | else-reports w ↦ w.report-is ∙ sym (ap (λ b. report_by b next) w.if-reports.false)
     ] in
     let found : c.up_to.result ≡ up_to c.args.limit (earlier (report_by c.args.reports next) (first_wake (wakes_in ls) (length ls))) =
-    c.up_to.ensures ∙ ap (up_to c.args.limit) (c.earlier.ensures ∙ ap (λ (r : Option ℕ). earlier r c.first_wake.result) report
-    ∙ ap (earlier (report_by c.args.reports next)) (c.first_wake.ensures ∙ ap (λ (xs : List Lane). first_wake (wakes_in xs) (length xs)) c.as_slice.ensures.value)) in
+    c.up_to.ensures ∙ ap (up_to c.args.limit) (c.earlier.ensures ∙ ap (λ (r : Option ℕ). earlier r c.next_turn.result) report
+    ∙ ap (earlier (report_by c.args.reports next)) c.next_turn.ensures) in
     let at : c.up_to.result ≡ Some (due.Reports c.in-Some-Reports.time) = c.in-Some-Reports.is ∙ ap (λ (d : Due). Some d) c.in-Some-Reports.field-0-is in
     let is : IsReport c.args.reports next c.args.limit c.in-Some-Reports.time = report_is c.args.reports next (first_wake (wakes_in ls) (length ls)) c.args.limit c.in-Some-Reports.time (sym found ∙ at) in
     λ e. report_falls c.args.limit c.in-Some-Reports.time c.args.self.now c.report.new.self is.le is.is c.in_ok-report-in-Some-Reports.ensures.next c.in_ok-report-in-Some-Reports.ensures.wakes
@@ -82,8 +82,8 @@ returns-in_ok-report-in-Some-Reports-clause-first c =
       | else-reports w ↦ w.report-is ∙ sym (ap (λ b. report_by b next) w.if-reports.false)
     ] in
     let found : c.up_to.result ≡ up_to c.args.limit (earlier (report_by c.args.reports next) (first_wake (wakes_in ls) (length ls))) =
-    c.up_to.ensures ∙ ap (up_to c.args.limit) (c.earlier.ensures ∙ ap (λ (r : Option ℕ). earlier r c.first_wake.result) report
-    ∙ ap (earlier (report_by c.args.reports next)) (c.first_wake.ensures ∙ ap (λ (xs : List Lane). first_wake (wakes_in xs) (length xs)) c.as_slice.ensures.value)) in
+    c.up_to.ensures ∙ ap (up_to c.args.limit) (c.earlier.ensures ∙ ap (λ (r : Option ℕ). earlier r c.next_turn.result) report
+    ∙ ap (earlier (report_by c.args.reports next)) c.next_turn.ensures) in
     let at : c.up_to.result ≡ Some (due.Reports c.in-Some-Reports.time) = c.in-Some-Reports.is ∙ ap (λ (d : Due). Some d) c.in-Some-Reports.field-0-is in
     λ e k base tl h. (due.Reports c.in-Some-Reports.time, due_by k base c.args.self.now c.args.lines.now tl c.args.reports c.args.limit h ∙ sym found ∙ at, c.in_ok-report-in-Some-Reports.ensures.stands k base tl h)
 
@@ -97,8 +97,8 @@ returns-in_ok-tick-in-Some-Turns-clause-fewer c =
       | else-reports w ↦ w.report-is ∙ sym (ap (λ b. report_by b next) w.if-reports.false)
     ] in
     let found : c.up_to.result ≡ up_to c.args.limit (earlier (report_by c.args.reports next) (first_wake (wakes_in ls) (length ls))) =
-    c.up_to.ensures ∙ ap (up_to c.args.limit) (c.earlier.ensures ∙ ap (λ (r : Option ℕ). earlier r c.first_wake.result) report
-    ∙ ap (earlier (report_by c.args.reports next)) (c.first_wake.ensures ∙ ap (λ (xs : List Lane). first_wake (wakes_in xs) (length xs)) c.as_slice.ensures.value)) in
+    c.up_to.ensures ∙ ap (up_to c.args.limit) (c.earlier.ensures ∙ ap (λ (r : Option ℕ). earlier r c.next_turn.result) report
+    ∙ ap (earlier (report_by c.args.reports next)) c.next_turn.ensures) in
     let at : c.up_to.result ≡ Some (due.Turns c.in-Some-Turns.wake) = c.in-Some-Turns.is ∙ ap (λ (d : Due). Some d) c.in-Some-Turns.field-0-is in
     let is : IsTurn ls c.args.limit c.in-Some-Turns.wake = turn_is (report_by c.args.reports next) ls c.args.limit c.in-Some-Turns.wake (sym found ∙ at) in
     let new : Agenda = record { stage = c.tick.new.self; interval = c.args.self.now.interval; next_report = c.args.self.now.next_report; latest = c.max-self.result; room = c.args.self.now.room; small = c.args.self.now.small } in
@@ -114,8 +114,8 @@ returns-in_ok-tick-in-Some-Turns-clause-first c =
       | else-reports w ↦ w.report-is ∙ sym (ap (λ b. report_by b next) w.if-reports.false)
     ] in
     let found : c.up_to.result ≡ up_to c.args.limit (earlier (report_by c.args.reports next) (first_wake (wakes_in ls) (length ls))) =
-    c.up_to.ensures ∙ ap (up_to c.args.limit) (c.earlier.ensures ∙ ap (λ (r : Option ℕ). earlier r c.first_wake.result) report
-    ∙ ap (earlier (report_by c.args.reports next)) (c.first_wake.ensures ∙ ap (λ (xs : List Lane). first_wake (wakes_in xs) (length xs)) c.as_slice.ensures.value)) in
+    c.up_to.ensures ∙ ap (up_to c.args.limit) (c.earlier.ensures ∙ ap (λ (r : Option ℕ). earlier r c.next_turn.result) report
+    ∙ ap (earlier (report_by c.args.reports next)) c.next_turn.ensures) in
     let at : c.up_to.result ≡ Some (due.Turns c.in-Some-Turns.wake) = c.in-Some-Turns.is ∙ ap (λ (d : Due). Some d) c.in-Some-Turns.field-0-is in
     λ e k base tl h. (
       due.Turns c.in-Some-Turns.wake,

@@ -13,7 +13,7 @@ returns-clause-stands c =
 pub returns-clause-rests : goal.returns-clause-rests
 returns-clause-rests c =
     let reads : IsScript c.args.script.now = subst IsScript c.script.view_is c.script.invariant in
-    fresh_rests c.args.script.now _ reads c.new-lanes.ensures.items c.in_ok-front.ensures.stands
+    fresh_rests c.args.script.now _ reads c.new-lanes.ensures.items c.in_ok-front.ensures.stands c.in_ok-wakes.ensures
     (λ session lt. record {
       standing = record { latency = c.args.script.now.settings.latency; flushing = false };
       is = all_alike (record { latency = c.script.inside.settings.latency; flushing = false }) (record { latency = c.args.script.now.settings.latency; flushing = false }) session lt

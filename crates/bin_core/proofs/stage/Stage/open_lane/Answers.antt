@@ -38,5 +38,5 @@ returns-clause-does c =
 pub returns-clause-owes : goal.returns-clause-owes
 returns-clause-owes c =
     on_ok c.open.result _ _
-    (λ adds. λ n more k. begun_done n c.args.opening.now more c.args.self.now _ refl refl adds k)
+    (λ adds. λ n more k. begun_done n c.args.opening.now more c.args.self.now _ refl refl refl adds k)
     c.open.ensures.adds

@@ -6,7 +6,8 @@ use Rattle.bin_core.specs.declared.stage.Stage.{Stage}
 use Rattle.bin_core.specs.Stages.{Does, Keeps}
 use Rattle.bin_core.specs.Underway.{Owes}
 use Rattle.bin_core.proofs.Outcomes.{on_ok}
-use Rattle.bin_core.proofs.Synchronising.{is_none, long, replied, synced_none, synced_nameless, synced_named, reply_ntp, reply_local}
+use Rattle.bin_core.proofs.Cases.{is_none}
+use Rattle.bin_core.proofs.Synchronising.{long, replied, synced_none, synced_nameless, synced_named, reply_ntp, reply_local}
 use Rattle.bin_core.proofs.Owing.{sync_there, sync_early, synced_done}
 use Rattle.bin_core.proofs.stage.Stage.synchronise.Goals as goal
 
@@ -14,7 +15,7 @@ pub returns-in_default-clause-does : goal.returns-in_default-clause-does
 returns-in_default-clause-does c =
     let number : c.from.result ≡ c.args.lane = c.from.ensures in
     let below : c.from.result < length c.args.self.now.lanes.items = omega (arith, number, sync_there c.requires.0 c.args.lane c.args.report.now c.requires.1 c.args.self.now c.requires.2) in
-    let new : Stage = record { front = c.args.self.now.front; lanes = with_item c.args.self.now.lanes c.from.result c.sync.new.self; sync = c.args.self.now.sync; standings = c.args.self.now.standings } in
+    let new : Stage = record { front = c.args.self.now.front; lanes = with_item c.args.self.now.lanes c.from.result c.sync.new.self; wakes = c.args.self.now.wakes; sync = c.args.self.now.sync; standings = c.args.self.now.standings } in
     let all : Does c.args.time (Sync c.args.lane c.args.report.now) c.args.self.now new c.args.lines.now c.sync.new.lines =
     subst (λ (n : ℕ). Does c.args.time (Sync n c.args.report.now) c.args.self.now new c.args.lines.now c.sync.new.lines) number
     (λ k base resting tl apart h. synced_none k base resting new c.args.time c.from.result c.args.report.now c.index_mut-to.result.now c.in_ok-info.field-0 c.sync.new.lines tl
@@ -26,7 +27,7 @@ pub returns-in_default-cname-clause-does : goal.returns-in_default-cname-clause-
 returns-in_default-cname-clause-does c =
     let number : c.from.result ≡ c.args.lane = c.from.ensures in
     let below : c.from.result < length c.args.self.now.lanes.items = omega (arith, number, sync_there c.requires.0 c.args.lane c.args.report.now c.requires.1 c.args.self.now c.requires.2) in
-    let new : Stage = record { front = c.args.self.now.front; lanes = with_item c.args.self.now.lanes c.from.result c.sync.new.self; sync = c.args.self.now.sync; standings = c.args.self.now.standings } in
+    let new : Stage = record { front = c.args.self.now.front; lanes = with_item c.args.self.now.lanes c.from.result c.sync.new.self; wakes = c.args.self.now.wakes; sync = c.args.self.now.sync; standings = c.args.self.now.standings } in
     let all : Does c.args.time (Sync c.args.lane c.args.report.now) c.args.self.now new c.args.lines.now c.sync.new.lines =
     subst (λ (n : ℕ). Does c.args.time (Sync n c.args.report.now) c.args.self.now new c.args.lines.now c.sync.new.lines) number
     (λ k base resting tl apart h. synced_nameless k base resting new c.args.time c.from.result c.args.report.now c.index_mut-to.result.now c.in_ok-info.field-0 c.in-Some.info c.sync.new.lines tl
@@ -39,8 +40,8 @@ pub returns-clause-does : goal.returns-clause-does
 returns-clause-does c =
     let number : c.from.result ≡ c.args.lane = c.from.ensures in
     let below : c.from.result < length c.args.self.now.lanes.items = omega (arith, number, sync_there c.requires.0 c.args.lane c.args.report.now c.requires.1 c.args.self.now c.requires.2) in
-    let new : Stage = record { front = c.args.self.now.front; lanes = with_item c.args.self.now.lanes c.from.result c.sync.new.self; sync = c.args.self.now.sync; standings = c.args.self.now.standings } in
-    let kept : Stage = record { front = c.args.self.now.front; lanes = with_item c.args.self.now.lanes c.from.result c.sync.new.self; sync = c.keep.new.sync; standings = c.args.self.now.standings } in
+    let new : Stage = record { front = c.args.self.now.front; lanes = with_item c.args.self.now.lanes c.from.result c.sync.new.self; wakes = c.args.self.now.wakes; sync = c.args.self.now.sync; standings = c.args.self.now.standings } in
+    let kept : Stage = record { front = c.args.self.now.front; lanes = with_item c.args.self.now.lanes c.from.result c.sync.new.self; wakes = c.args.self.now.wakes; sync = c.keep.new.sync; standings = c.args.self.now.standings } in
     on_ok c.keep.result _ _
     (λ keep. subst (λ (n : ℕ). Does c.args.time (Sync n c.args.report.now) c.args.self.now kept c.args.lines.now c.keep.new.lines) number
     (λ k base resting tl apart h. synced_named k base resting new kept c.args.time c.from.result c.args.report.now c.index_mut-to.result.now c.in_ok-info.field-0 c.in-Some.info c.in-Some-cname.name.now c.sync.new.lines c.keep.new.lines tl
@@ -73,24 +74,24 @@ pub returns-in_default-clause-owes : goal.returns-in_default-clause-owes
 returns-in_default-clause-owes c =
     let number : c.from.result ≡ c.args.lane = c.from.ensures in
     let below : c.from.result < length c.args.self.now.lanes.items = omega (arith, number, sync_there c.requires.0 c.args.lane c.args.report.now c.requires.1 c.args.self.now c.requires.2) in
-    let new : Stage = record { front = c.args.self.now.front; lanes = with_item c.args.self.now.lanes c.from.result c.sync.new.self; sync = c.args.self.now.sync; standings = c.args.self.now.standings } in
-    λ n more k. synced_done n c.from.result c.args.report.now c.index_mut-to.result.now c.sync.new.self more c.args.self.now new below c.index_mut-to.ensures.value refl refl refl c.in_ok-info.ensures.stays
+    let new : Stage = record { front = c.args.self.now.front; lanes = with_item c.args.self.now.lanes c.from.result c.sync.new.self; wakes = c.args.self.now.wakes; sync = c.args.self.now.sync; standings = c.args.self.now.standings } in
+    λ n more k. synced_done n c.from.result c.args.report.now c.index_mut-to.result.now c.sync.new.self more c.args.self.now new below c.index_mut-to.ensures.value refl refl refl refl c.in_ok-info.ensures.stays c.in_ok-info.ensures.wake
     (subst (λ (m : ℕ). Owes n (Sync m c.args.report.now ∷ more) c.args.self.now) (sym number) k)
 
 pub returns-in_default-cname-clause-owes : goal.returns-in_default-cname-clause-owes
 returns-in_default-cname-clause-owes c =
     let number : c.from.result ≡ c.args.lane = c.from.ensures in
     let below : c.from.result < length c.args.self.now.lanes.items = omega (arith, number, sync_there c.requires.0 c.args.lane c.args.report.now c.requires.1 c.args.self.now c.requires.2) in
-    let new : Stage = record { front = c.args.self.now.front; lanes = with_item c.args.self.now.lanes c.from.result c.sync.new.self; sync = c.args.self.now.sync; standings = c.args.self.now.standings } in
-    λ n more k. synced_done n c.from.result c.args.report.now c.index_mut-to.result.now c.sync.new.self more c.args.self.now new below c.index_mut-to.ensures.value refl refl refl c.in_ok-info.ensures.stays
+    let new : Stage = record { front = c.args.self.now.front; lanes = with_item c.args.self.now.lanes c.from.result c.sync.new.self; wakes = c.args.self.now.wakes; sync = c.args.self.now.sync; standings = c.args.self.now.standings } in
+    λ n more k. synced_done n c.from.result c.args.report.now c.index_mut-to.result.now c.sync.new.self more c.args.self.now new below c.index_mut-to.ensures.value refl refl refl refl c.in_ok-info.ensures.stays c.in_ok-info.ensures.wake
     (subst (λ (m : ℕ). Owes n (Sync m c.args.report.now ∷ more) c.args.self.now) (sym number) k)
 
 pub returns-clause-owes : goal.returns-clause-owes
 returns-clause-owes c =
     let number : c.from.result ≡ c.args.lane = c.from.ensures in
     let below : c.from.result < length c.args.self.now.lanes.items = omega (arith, number, sync_there c.requires.0 c.args.lane c.args.report.now c.requires.1 c.args.self.now c.requires.2) in
-    let new : Stage = record { front = c.args.self.now.front; lanes = with_item c.args.self.now.lanes c.from.result c.sync.new.self; sync = c.keep.new.sync; standings = c.args.self.now.standings } in
+    let new : Stage = record { front = c.args.self.now.front; lanes = with_item c.args.self.now.lanes c.from.result c.sync.new.self; wakes = c.args.self.now.wakes; sync = c.keep.new.sync; standings = c.args.self.now.standings } in
     on_ok c.keep.result _ _
-    (λ keep. λ n more k. synced_done n c.from.result c.args.report.now c.index_mut-to.result.now c.sync.new.self more c.args.self.now new below c.index_mut-to.ensures.value refl refl refl c.in_ok-info.ensures.stays
+    (λ keep. λ n more k. synced_done n c.from.result c.args.report.now c.index_mut-to.result.now c.sync.new.self more c.args.self.now new below c.index_mut-to.ensures.value refl refl refl refl c.in_ok-info.ensures.stays c.in_ok-info.ensures.wake
     (subst (λ (m : ℕ). Owes n (Sync m c.args.report.now ∷ more) c.args.self.now) (sym number) k))
     c.keep.ensures

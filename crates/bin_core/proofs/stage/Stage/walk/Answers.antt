@@ -106,14 +106,14 @@ loop-step-preserved-in-Continue-branch-3 c =
     let number : c.from.result ≡ c.in-Push.lane = c.from.ensures in
     let there : c.in-Push.lane < length c.loop-step.self.lanes.items = push_there c.requires.0 c.in-Push.lane c.in-Push.arrival (drain_items c.next.new.self) c.loop-step.self owed in
     let below : c.from.result < length c.loop-step.self.lanes.items = omega (arith, number, there) in
-    let new : Stage = record { front = c.loop-step.self.front; lanes = with_item c.loop-step.self.lanes c.from.result c.push-in-Push.new.self; sync = c.loop-step.self.sync; standings = c.loop-step.self.standings } in
+    let new : Stage = record { front = c.loop-step.self.front; lanes = with_item c.loop-step.self.lanes c.from.result c.push-in-Push.new.self; wakes = c.loop-step.self.wakes; sync = c.loop-step.self.sync; standings = c.loop-step.self.standings } in
     let does : Does c.args.time c.in-Some.step c.loop-step.self new c.loop-step.lines c.push-in-Push.new.lines =
     subst (λ (x : Step). Does c.args.time x c.loop-step.self new c.loop-step.lines c.push-in-Push.new.lines) (sym c.in-Push.is)
     (subst (λ (n : ℕ). Does c.args.time (step.Push n c.in-Push.arrival) c.loop-step.self new c.loop-step.lines c.push-in-Push.new.lines) number
     (pushes c.loop-step.self new c.args.time c.from.result c.in-Push.arrival c.index_mut.result.now c.push-in-Push.new.self c.loop-step.lines c.push-in-Push.new.lines below c.index_mut.ensures.value refl refl refl refl c.in_ok-push-in-Push.ensures.stands)) in (
       does_more c.args.time c.loop-step.yielded _ c.in-Some.step c.args.self.now c.loop-step.self new c.args.lines.now c.loop-step.lines c.push-in-Push.new.lines refl does c.loop-step.invariant.0,
       left_next c.loop-step.yielded (drain_items c.next.new.self) (drain_items c.into_iter-step-iterator.result) (drain_items c.loop-step.step-iterator) c.in-Some.step c.loop-step.invariant.1 c.in-Some.ensures.steps.0,
-      λ n k. pushed_done n c.from.result c.in-Push.arrival c.index_mut.result.now c.push-in-Push.new.self (drain_items c.next.new.self) c.loop-step.self new below c.index_mut.ensures.value refl refl refl c.in_ok-push-in-Push.ensures.stays
+      λ n k. pushed_done n c.from.result c.in-Push.arrival c.index_mut.result.now c.push-in-Push.new.self (drain_items c.next.new.self) c.loop-step.self new below c.index_mut.ensures.value refl refl refl refl c.in_ok-push-in-Push.ensures.stays c.in_ok-push-in-Push.ensures.wake
           (subst (λ (m : ℕ). Owes n (step.Push m c.in-Push.arrival ∷ drain_items c.next.new.self) c.loop-step.self) (sym number)
           (subst (λ (xs : List Step). Owes n xs c.loop-step.self) left (c.loop-step.invariant.2 n k))),
     )

@@ -1,7 +1,7 @@
 use Rattle.std.proofs.Common.{refl, sym, ap, ◌∙◌}
 use Rattle.jitter_model.specs.declared.Entry.TheVariants.{Clock}
 use Rattle.replay_model.specs.Turning.{asked}
-use Rattle.replay_model.proofs.Lanes.{lane_here}
+use Rattle.lane_core.proofs.Histories.{lane_here}
 use Rattle.lane_core.proofs.Totals.{call_counted}
 use Rattle.lane_core.proofs.Entering.{entered}
 use Rattle.lane_core.proofs.Outcomes.{if_ok}

@@ -1,6 +1,8 @@
-use Rattle.std.proofs.Common.{◌∙◌}
+use Rattle.std.proofs.Common.{ap, ◌∙◌}
+use Rattle.std.specs.Prelude.{flat_map}
+use Rattle.script_lang.specs.Contents.{Contents}
+use Rattle.live_plan.specs.Courses.{concerned_by}
 use Rattle.front_model.specs.Plan.{captured}
-use Rattle.live_plan.proofs.Outcomes.{if_both}
 use Rattle.live_plan.proofs.Planning.{finished_lanes}
 use Rattle.live_plan.proofs.builder.PlanBuilder.finish.Goals as goal
 
@@ -8,6 +10,7 @@ pub returns-clause-plan : goal.returns-clause-plan
 returns-clause-plan c = λ records h.
     let made = c.in_ok-lanes.ensures (captured records) h.front in
     let are = finished_lanes c.args.script.now records c.args.self.drafts.items h.drafts in
-    if_both c.plan_of.result _ _ _
-    (λ plan count lanes. record { records_are = count ∙ c.taken-records.ensures ∙ h.counted; lanes_are = lanes ∙ made ∙ are })
-    c.plan_of.ensures.records c.plan_of.ensures.lanes
+    record { records_are = c.in_ok-plan.ensures.records ∙ c.taken-records.ensures ∙ h.counted; lanes_are = c.in_ok-plan.ensures.lanes ∙ made ∙ are }
+
+pub returns-clause-course : goal.returns-clause-course
+returns-clause-course c = λ records h. record { routes_are = h.routes; events_are = c.in_ok-events.ensures ∙ ap (flat_map concerned_by) c.as_slice.ensures.value ∙ ap (λ (x : Contents). flat_map concerned_by x.items) c.script.view_is }

@@ -5,7 +5,11 @@ use Rattle.front_model.specs.declared.Step.{Step}
 use Rattle.front_model.specs.Events.{FrontEvent, Came}
 use Rattle.front_model.specs.Plan.{captured, plan}
 use Rattle.front_model.specs.Steps.{steps, all_steps}
+use Rattle.std.specs.Prelude.{filter_map}
+use Rattle.std.proofs.lemmas.List.Elements.{filter_map-append}
+use Rattle.live_bin.specs.declared.course.Route.{Route}
 use Rattle.rtp_front.specs.Standing.{StandsFor}
+use Rattle.live_plan.specs.Courses.{route_of, routes}
 use Rattle.live_plan.specs.Drafts.{AreDrafts}
 use Rattle.live_plan.proofs.Outcomes.{on_ok}
 use Rattle.live_plan.proofs.Planning.{captured_more}
@@ -28,6 +32,10 @@ returns-clause-taken c = λ script before h.
       counted = c.in_ok-take.ensures.taken ∙ ap (λ (n : ℕ). n + 1) h.counted ∙ sym (length_push before r);
       clock = passed;
       drafts = subst (λ (xs : List Step). AreDrafts xs c.place_all.new.drafts.items) (sym all) drafts;
+      routes = c.in_ok-note_routes.ensures
+          ∙ ap (λ (xs : List Step). c.args.self.now.routes.items ++ routes xs) c.as_slice.ensures.value
+          ∙ ap (λ (xs : List Route). xs ++ routes c.take.new.steps.items) h.routes
+          ∙ sym (filter_map-append route_of (plan script before) c.take.new.steps.items) ∙ ap routes (sym all);
       works = h.works;
     })
     (c.place_all.ensures (plan script before) h.drafts)

@@ -20,6 +20,6 @@ returns-clause-stands c =
           ap (λ k. list_any (nat_eq q) k.keys) c.known-2.view_is
           ∙ c.loop-ssrc.invariant q
           ∙ ap (λ (l : List ℕ). list_any (nat_eq q) l) (take_all c.loop-ssrc.ssrc-index c.args.quick.now (omega arith));
-      sources = c.in_ok-new.ensures;
+      sources = c.in_ok-new.ensures.empty;
       held = λ q. ap (λ (r : Runs). run_of r q) c.new-2.ensures.empty;
     })

@@ -7,7 +7,7 @@ use Rattle.slot_ring.proofs.ring.SlotRing.clear.Goals as goal
 pub invariant_of-self : goal.invariant_of-self
 invariant_of-self g c =
     let r = c.self.inside in let sound = c.self.invariant.0 in let n = length r.slots.places in let now = c.drop_held.ensures.empty in (
-      rw (now, c.drop_held.ensures.marks) (sound-none _ n sound.some sound.few),
+      rw (now, c.drop_held.ensures.marks) (sound-none _ n sound.some sound.few sound.power),
       c.drop_held.ensures.lender ∙ c.self.invariant.1,
     )
 

@@ -1,0 +1,4 @@
+pub mod Numbering
+pub mod Printing
+pub mod Counting
+pub mod Clocking

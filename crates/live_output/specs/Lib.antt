@@ -1,0 +1,4 @@
+pub mod Numbered
+pub mod Clocks
+pub mod Totals
+pub mod Text

@@ -1,0 +1,4 @@
+pub mod Standing
+pub mod Behind
+pub mod Kept
+pub mod Reporting
