@@ -68,34 +68,52 @@ const SCRIPT: &[u8] = b"session 0 5004 5005\n\
                       set ssrc 00000001\n";
 
 // From which of the words `-s c` on they are given, how many bytes of the capture are there, the
-// call on the files and the write that fail (0 for none), and what comes: the status, how many
-// bytes of the line and the script are written, and the error text.
-const ENDS: [(usize, usize, u64, u64, Status, usize, usize, &[u8]); 7] = [
-    (1, 246, 0, 0, Status::Done, 51, 270, b""),
-    (0, 246, 0, 0, Status::Done, 0, 270, b""),
+// call on the files and the write that fail (0 for none), and what comes: the status, the line and
+// the script that are written, and the error text.
+const ENDS: [(usize, usize, u64, u64, Status, &[u8], &[u8], &[u8]); 7] = [
+    (1, 246, 0, 0, Status::Done, LINE, SCRIPT, b""),
+    (0, 246, 0, 0, Status::Done, b"", SCRIPT, b""),
     (
         2,
         246,
         0,
         0,
         Status::Usage,
-        0,
-        0,
+        b"",
+        b"",
         b"rtpscan: usage: [-s] CAPTURE\n",
     ),
-    (0, 246, 1, 0, Status::Read, 0, 0, b"rtpbin: read failed\n"),
-    (0, 246, 3, 0, Status::Read, 0, 0, b"rtpbin: read failed\n"),
+    (
+        0,
+        246,
+        1,
+        0,
+        Status::Read,
+        b"",
+        b"",
+        b"rtpbin: read failed\n",
+    ),
+    (
+        0,
+        246,
+        3,
+        0,
+        Status::Read,
+        b"",
+        b"",
+        b"rtpbin: read failed\n",
+    ),
     (
         0,
         245,
         0,
         0,
         Status::Capture,
-        0,
-        0,
+        b"",
+        b"",
         b"rtpbin: capture at 172: cut-record\n",
     ),
-    (0, 246, 0, 1, Status::Write, 0, 0, b""),
+    (0, 246, 0, 1, Status::Write, b"", b"", b""),
 ];
 
 #[test]
@@ -108,15 +126,14 @@ fn ends(rt: HostRuntime) -> Result<(), Fail> {
     let capture = capture_of(alloc, &OPUS)?;
     for (i, (from, cut, call, write, status, line, script, text)) in ENDS.into_iter().enumerate() {
         assert!(rt; from <= 2 && words.len() == 2 && cut <= capture.len());
-        assert!(rt; line <= LINE.len() && script <= SCRIPT.len());
         let mut files = MemoryFiles::new(alloc)?;
         files.add(alloc, "c", &capture[..cut])?;
         files.fail_at(call)?;
         let mut out = MemorySink::with_room(alloc, 1000)?;
         out.fail_at(write)?;
         let mut err = MemorySink::with_room(alloc, 1000)?;
-        let mut wanted = Vec::from_slice(alloc, &LINE[..line])?;
-        wanted.extend_from_slice(&SCRIPT[..script])?;
+        let mut wanted = Vec::from_slice(alloc, line)?;
+        wanted.extend_from_slice(script)?;
         let answer = run_scan(alloc, &words[from..], &mut files, &mut out, &mut err);
         assert_eq!(rt; answer, status, "status at {i}");
         assert_eq!(rt; out.bytes(), wanted.as_slice(), "output at {i}");
