@@ -1,5 +1,6 @@
 mod Entries
 pub mod Ranging
+pub mod Hearing
 pub mod Limiting
 pub mod Standing
 pub mod Validity

@@ -6,11 +6,10 @@ use Rattle.std.proofs.lemmas.Bool.Decides.{nat_tests}
 use Rattle.indexmap.specs.IndexMap.{insert_entry}
 use Rattle.rtp_units.specs.declared.shared.Address.{Address}
 use Rattle.source_table.specs.declared.counts.Counts.{Counts}
-use Rattle.source_table.specs.declared.counts.Counted.{Counted}
 use Rattle.source_table.specs.declared.jitter.Jitter.{Jitter}
 use Rattle.source_table.specs.declared.source.Source.{Source}
 use Rattle.source_table.specs.declared.source.Packet.{Packet}
-use Rattle.source_table.specs.Counting.{counts_begin, ahead, is_after, jump_next, count_next, counts_reported, apart, step_of, sixteenths_next, jitter_next, transit_of}
+use Rattle.source_table.specs.Counting.{Counted, counts_begin, ahead, is_after, jump_next, count_next, counts_reported, apart, step_of, sixteenths_next, jitter_next, transit_of}
 use Rattle.source_table.specs.Sources.{fresh, is_enough, counts_next, is_counted, hear_next, report_next, left_next, reported, reported_from}
 use Rattle.source_table.specs.Ranges.{AreCountsOf, AreCountsIn, IsSourceOf, AreSourcesOf, AreInRange}
 

@@ -1,15 +1,13 @@
 -- A table that becomes what a call makes of it stands for that call too.
 use Rattle.std.proofs.Common.{◌≡◌, ℕ, Bool, List, [], nat_eq, Option, Some, None, refl, sym, ap, subst, ◌∙◌}
-use Rattle.std.specs.Prelude.{Result, Err}
+use Rattle.std.specs.Prelude.{Result}
 use Rattle.rtp_units.specs.declared.shared.Address.{Address}
 use Rattle.rtp_wire.specs.Packet.{Packet as View}
 use Rattle.source_table.specs.declared.source.Source.{Source}
-use Rattle.source_table.specs.declared.source.Packet.{Packet}
 use Rattle.source_table.specs.declared.source.Heard.{Heard}
 use Rattle.source_table.specs.declared.answers.Refuse.{Refuse}
-use Rattle.source_table.specs.declared.answers.Refuse.TheVariants.{Own, LimitSources, Collision, OutOfMemory}
 use Rattle.source_table.specs.declared.answers.Named.{Named}
-use Rattle.source_table.specs.Table.{Table, empty, kept, packet_of, changed_by, changed, IsSourceFrom, Hears, Names}
+use Rattle.source_table.specs.Table.{Table, empty, kept, packet_of, changed_by, changed, Hears, Names}
 use Rattle.source_table.specs.Answers.{IsAnswer}
 use Rattle.source_table.specs.History.{Call, Rtp, Sets, table_next, IsAnswered, StandsFor, Extends}
 use Rattle.indexmap.specs.IndexMap.{insert_entry}
@@ -49,10 +47,3 @@ changes t call ssrc f s after es k e is next a =
     (ap (λ (x : List (ℕ × Source)). record t { sources = x }) (e ∙ ap (λ (x : Source). insert_entry nat_eq t.sources ssrc x) is)
     ∙ sym (ap (λ (o : Option Source). changed_by t ssrc o f) k) ∙ next)
     a
-
--- a packet of no source is refused
-pub refused : (t : Table) (from : Address) (ssrc : ℕ) (p : Packet) (why : Refuse) → (ssrc ≡ t.own → ⊥) → IsSourceFrom t ssrc from (Err why) → Hears t from ssrc p (Err why) t
-refused t from ssrc p Own other h = absurd h
-refused t from ssrc p LimitSources other h = (other, h.0, h.1, refl)
-refused t from ssrc p (Collision first new) other h = (other, h.0, h.1, h.2, h.3, h.4, refl)
-refused t from ssrc p OutOfMemory other h = absurd h

@@ -3,7 +3,6 @@ use Rattle.std.specs.Prelude.{ℕ, ℤ, pos, ◌+◌, ◌-◌, ◌*◌, ◌/◌,
 use Rattle.std.specs.Prelude.{neg_ℤ}
 use Rattle.source_table.specs.declared.run.Run.{Run}
 use Rattle.source_table.specs.declared.counts.Counts.{Counts}
-use Rattle.source_table.specs.declared.counts.Counted.{Counted}
 use Rattle.source_table.specs.declared.jitter.Jitter.{Jitter}
 
 -- ---- probation
@@ -19,6 +18,11 @@ abbrev pub run_next : Run → ℕ → Run
 run_next run seq = record { last = seq; length = if follows run seq then min (run.length + 1) 255 else 1 }
 
 -- ---- counts
+
+-- counts after a packet, and whether it was counted
+pub record Counted : Type 0 where
+  pub counts : Counts
+  pub counted : Bool
 
 -- The packet that makes a source valid begins the counts.
 abbrev pub counts_begin : ℕ → Counts

@@ -62,15 +62,6 @@ abbrev pub Takes : Table → ℕ → Address → Option Source → Source → Ty
 Takes t ssrc from None s = (length t.sources < 64) × (s ≡ fresh from)
 Takes t ssrc from (Some k) s = (k.from ≡ from) × (s ≡ k)
 
--- The source that a packet is heard of, or why it is heard of none.
-abbrev pub IsSourceFrom : Table → ℕ → Address → Result Source Refuse → Type 0
-IsSourceFrom t ssrc from (Ok s) = Takes t ssrc from (kept t ssrc) s
-IsSourceFrom t ssrc from (Err Own) = ⊥
-IsSourceFrom t ssrc from (Err LimitSources) = (kept t ssrc ≡ None) × (64 ≤ length t.sources)
-IsSourceFrom t ssrc from (Err (Collision first other)) =
-    (s : Source) × (kept t ssrc ≡ Some s) × (first ≡ s.from) × (other ≡ from) × (s.from ≡ from → ⊥)
-IsSourceFrom t ssrc from (Err OutOfMemory) = ⊥
-
 -- What hearing a packet answered and left. A refusal leaves the table as it was.
 abbrev pub Hears : Table → Address → ℕ → Packet → Result Heard Refuse → Table → Type 0
 Hears t from ssrc p (Ok heard) new =
@@ -80,6 +71,34 @@ Hears t from ssrc p (Err LimitSources) new = (ssrc ≡ t.own → ⊥) × (kept t
 Hears t from ssrc p (Err (Collision first other)) new =
     (ssrc ≡ t.own → ⊥) × (s : Source) × (kept t ssrc ≡ Some s) × (first ≡ s.from) × (other ≡ from) × (s.from ≡ from → ⊥) × (new ≡ t)
 Hears t from ssrc p (Err OutOfMemory) new = new ≡ t
+
+-- What hearing a packet of a kept source answered and left of it.
+abbrev pub HearsKept : Source → Address → Packet → Result Heard Refuse → Source → Type 0
+HearsKept s from p (Ok heard) new =
+    (s.from ≡ from) × (heard ≡ hear_answer s p) × (new ≡ hear_next s p)
+HearsKept s from p (Err (Collision first other)) new =
+    (first ≡ s.from) × (other ≡ from) × (s.from ≡ from → ⊥) × (new ≡ s)
+HearsKept s from p (Err refuse) new = ⊥
+
+-- What hearing a packet of a source that is not kept answered and left of the sources.
+abbrev pub HearsNew : List (ℕ × Source) → Address → ℕ → Packet → Result Heard Refuse → List (ℕ × Source) → Type 0
+HearsNew es from ssrc p (Ok heard) new =
+    (length es < 64) × (heard ≡ hear_answer (fresh from) p)
+    × (new ≡ insert_entry nat_eq es ssrc (hear_next (fresh from) p))
+HearsNew es from ssrc p (Err LimitSources) new = (64 ≤ length es) × (new ≡ es)
+HearsNew es from ssrc p (Err OutOfMemory) new = new ≡ es
+HearsNew es from ssrc p (Err refuse) new = ⊥
+
+-- What hearing a packet of an SSRC answered and left of the sources, by the kept one.
+abbrev pub HearsBy : Option Source → List (ℕ × Source) → Address → ℕ → Packet → Result Heard Refuse → List (ℕ × Source) → Type 0
+HearsBy None es from ssrc p answer new = HearsNew es from ssrc p answer new
+HearsBy (Some s) es from ssrc p answer new =
+    (after : Source) × HearsKept s from p answer after
+    × (new ≡ insert_entry nat_eq es ssrc after)
+
+abbrev pub HearsIn : List (ℕ × Source) → Address → ℕ → Packet → Result Heard Refuse → List (ℕ × Source) → Type 0
+HearsIn es from ssrc p answer new =
+    HearsBy (lookup (nat_eq ssrc) es) es from ssrc p answer new
 
 abbrev pub named_next : Table → ℕ → List ℕ → Table
 named_next t ssrc text = record t { names = insert_entry nat_eq t.names ssrc text }

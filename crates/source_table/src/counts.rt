@@ -25,13 +25,6 @@ pub struct Counts {
     pub prior_received: u64,
 }
 
-/// Counts after a packet, and whether it was counted.
-#[derive(Clone, Copy, Debug, PartialEq, Eq, Drop)]
-pub(crate) struct Counted {
-    pub counts: Counts,
-    pub counted: bool,
-}
-
 impl Counts {
     /// Counts that begin with this packet.
     pub(crate) fn begin(seq: u16) -> Counts
@@ -47,51 +40,40 @@ impl Counts {
         }
     }
 
-    /// The counts after one packet more.
-    pub(crate) fn next(self, seq: u16) -> Counted
-        requires greatest { self.greatest < 2 ^ 63 }
-        requires received { self.received < 2 ^ 63 }
-        ensures { result ≡ count_next self seq }
+    /// Counts one packet more, and says whether it was counted.
+    pub(crate) fn hear(&mut self, seq: u16) -> bool
+        requires greatest { self.old.greatest < 2 ^ 63 }
+        requires received { self.old.received < 2 ^ 63 }
+        ensures counts { self.new ≡ (count_next self.old seq).counts }
+        ensures counted { result ≡ (count_next self.old seq).counted }
     {
         let ahead = (u64::from(seq) + 65536 - self.greatest % 65536) % 65536;
         if ahead < MAX_DROPOUT {
-            return Counted {
-                counts: Counts {
-                    greatest: self.greatest + ahead,
-                    received: self.received + 1,
-                    ..self
-                },
-                counted: true,
-            };
+            self.greatest += ahead;
+            self.received += 1;
+            return true;
         }
         if ahead > LAST_JUMP {
-            return Counted {
-                counts: Counts {
-                    received: self.received + 1,
-                    ..self
-                },
-                counted: true,
-            };
+            self.received += 1;
+            return true;
         }
-        self.jumped(seq)
+        self.hear_jump(seq)
     }
 
     /// Two jumps to numbers that follow each other begin the counts anew.
-    fn jumped(self, seq: u16) -> Counted
-        ensures { result ≡ jump_next self seq }
+    fn hear_jump(&mut self, seq: u16) -> bool
+        ensures counts { self.new ≡ (jump_next self.old seq).counts }
+        ensures counted { result ≡ (jump_next self.old seq).counted }
     {
         match self.jump {
-            Some(last) if seq == last.wrapping_add(1) => Counted {
-                counts: Counts::begin(seq),
-                counted: true,
-            },
-            _ => Counted {
-                counts: Counts {
-                    jump: Some(seq),
-                    ..self
-                },
-                counted: false,
-            },
+            Some(last) if seq == last.wrapping_add(1) => {
+                *self = Counts::begin(seq);
+                true
+            }
+            _ => {
+                self.jump = Some(seq);
+                false
+            }
         }
     }
 

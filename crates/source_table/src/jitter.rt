@@ -1,5 +1,5 @@
 //! Interarrival jitter (RFC 3550, appendix A.8).
-ghost use Rattle.std.specs.Prelude.{◌≡◌, ◌<◌, ◌≤◌, ◌^◌};
+ghost use Rattle.std.specs.Prelude.{◌≡◌, ◌<◌, ◌≤◌, ◌^◌, ◌*◌, ◌/◌, ◌%◌};
 ghost use Rattle.source_table.specs.Counting.{no_jitter, transit_of, apart, step_of, jitter_next};
 
 /// The jitter of a source in 16ths of a tick, and the transit of its last counted packet with a rate.
@@ -52,8 +52,20 @@ fn stepped(sixteenths: u64, distance: u32) -> u64
 fn transit(now: u64, timestamp: u32, rate: u32) -> u32
     ensures { result ≡ transit_of now timestamp rate }
 {
-    let ticks = u128::from(now) * u128::from(rate) / 1_000_000_000 % 4294967296;
-    ((ticks + 4294967296 - u128::from(timestamp)) % 4294967296) as u32
+    ((ticks(now, rate) + 4294967296 - u64::from(timestamp)) % 4294967296) as u32
+}
+
+/// A time in ticks, cut down, modulo 2^32.
+fn ticks(now: u64, rate: u32) -> u64
+    ensures value { result ≡ now * rate / 1000000000 % 4294967296 }
+    ensures small { result < 2 ^ 32 }
+{
+    // A product of 64 bits is divided at once. One of 128 bits takes a call of some fifty instructions.
+    let product = u128::from(now) * u128::from(rate);
+    match u64::try_from(product) {
+        Ok(product) => product / 1_000_000_000 % 4294967296,
+        Err(_) => (product / 1_000_000_000 % 4294967296) as u64,
+    }
 }
 
 /// How far two transits lie apart as signed numbers of 32 bits.

@@ -74,49 +74,35 @@ impl Source {
         }
     }
 
-    /// What a packet is to the source.
-    pub(crate) fn answer(&self, packet: &Packet) -> Heard
-        ensures { result ≡ hear_answer self.now packet.now }
+    /// Hears a packet, and says what it is to the source.
+    pub(crate) fn hear(&mut self, packet: &Packet) -> Heard
+        requires { IsSourceOf (2 ^ 40) self.old }
+        ensures answer { result ≡ hear_answer self.old packet.now }
+        ensures after { self.new ≡ hear_next self.old packet.now }
     {
-        if self.counts.is_some() {
+        let before = self.run;
+        let run = before.next(packet.seq);
+        self.run = run;
+        self.last = packet.arrival;
+        self.spoke = true;
+        if let Some(counts) = &mut self.counts {
+            if counts.hear(packet.seq) {
+                self.jitter = self
+                    .jitter
+                    .next(packet.arrival, packet.timestamp, packet.rate);
+            }
             return Heard::Valid;
         }
-        if self.run.next(packet.seq).length >= packet.needed {
-            return Heard::NowValid;
+        if run.length < packet.needed {
+            return Heard::Waiting {
+                broken: before.length != 0 && !before.follows(packet.seq),
+            };
         }
-        Heard::Waiting {
-            broken: self.run.length != 0 && !self.run.follows(packet.seq),
-        }
-    }
-
-    /// The source after a packet.
-    pub(crate) fn heard(&self, packet: &Packet) -> Source
-        requires { IsSourceOf (2 ^ 40) self.now }
-        ensures { result ≡ hear_next self.now packet.now }
-    {
-        let run = self.run.next(packet.seq);
-        let (counts, counted) = match self.counts {
-            Some(counts) => {
-                let after = counts.next(packet.seq);
-                (Some(after.counts), after.counted)
-            }
-            None if run.length >= packet.needed => (Some(Counts::begin(packet.seq)), true),
-            None => (None, false),
-        };
-        let jitter = if counted {
-            self.jitter
-                .next(packet.arrival, packet.timestamp, packet.rate)
-        } else {
-            self.jitter
-        };
-        Source {
-            run,
-            counts,
-            jitter,
-            last: packet.arrival,
-            spoke: true,
-            ..*self
-        }
+        self.counts = Some(Counts::begin(packet.seq));
+        self.jitter = self
+            .jitter
+            .next(packet.arrival, packet.timestamp, packet.rate);
+        Heard::NowValid
     }
 
     /// The source after a sender report with this NTP timestamp.

@@ -1,17 +1,16 @@
 //! The table of a session.
 ghost use Rattle.std.specs.Prelude.{◌≡◌, ◌<◌, ◌≤◌, ◌^◌, ℕ, List, [], nat_eq, length, is_some, IfOk, OnOk, OnErr, option_map};
 ghost use Rattle.source_table.specs.Answers.{IsAnswer};
-ghost use Rattle.source_table.specs.Ranges.{IsSourceOf};
 ghost use Rattle.source_table.specs.History.{Call, Rtp, Reports, Leaves, Sets, Block, Blocks, Expires, StandsFor, Extends, alone, told_name};
 ghost use Rattle.source_table.specs.Sources.{report_next, left_next, reported};
-ghost use Rattle.source_table.specs.Table.{Table, empty, kept, name_of, packet_of, changed, needed, IsSourceFrom, Hears, Names, gone, expired, block_in, blocks, all_reported};
+ghost use Rattle.source_table.specs.Table.{Table, empty, kept, name_of, packet_of, changed, needed, Hears, Names, gone, expired, block_in, blocks, all_reported};
 ghost use Rattle.rtcp_wire.specs.Written.{LossFits};
 ghost use Rattle.std.specs.List.{AllByRecursion};
 
 use crate::answers::{Named, Refuse};
 use crate::maps::{
-    begin_intervals, blocks_of, gone_of, has_name, keep_names, keep_sources, put, put_name,
-    replace, same_address,
+    MAX_SOURCES, begin_intervals, blocks_of, gone_of, has_name, hear_source, keep_names,
+    keep_sources, put_name, replace,
 };
 use crate::source::{Heard, Packet, Source};
 use indexmap::IndexMap;
@@ -20,9 +19,6 @@ use rtp_units::{Address, Blob, OutOfMemory};
 use rtp_wire::RtpView;
 use std::alloc::Global;
 use std::marker::Model;
-
-/// The most sources of a table.
-const MAX_SOURCES: usize = 64;
 
 /// The sources of a session, in order of first sight.
 #[derive(Drop)]
@@ -40,7 +36,14 @@ impl Model for SourceTable {
 
     ghost Value = { Table };
 
-    ghost view = { λ t. record { own = t.own; probation = t.probation; heard = t.heard; sources = t.sources.entries; names = t.names.entries } };
+    ghost view = { λ t. record {
+      own = t.own;
+      probation = t.probation;
+      heard = t.heard;
+      sources = t.sources.entries;
+      names
+          = t.names.entries;
+    } };
 
     ghost invariant = { λ t. AreInRange t.heard t.sources.entries };
 }
@@ -88,7 +91,6 @@ impl SourceTable {
         if ssrc == self.own {
             return Err(Refuse::Own);
         }
-        let source = self.source_from(ssrc, from)?;
         let packet = Packet {
             arrival: now,
             seq: view.seq(),
@@ -96,12 +98,9 @@ impl SourceTable {
             rate,
             needed: self.packets_needed(quick),
         };
-        match put(&mut self.sources, ssrc, source.heard(&packet)) {
-            Ok(()) => {}
-            Err(_) => return Err(Refuse::OutOfMemory),
-        }
+        let heard = hear_source(&mut self.sources, ssrc, &from, &packet)?;
         self.heard += 1;
-        Ok(source.answer(&packet))
+        Ok(heard)
     }
 
     /// How many consecutive packets make a source valid.
@@ -109,23 +108,6 @@ impl SourceTable {
         ensures { result ≡ needed self.now quick }
     {
         if quick { 1 } else { self.probation.max(1) }
-    }
-
-    /// The source that a packet from this address is heard of: the kept one, or a new one where
-    /// there is room.
-    fn source_from(&self, ssrc: u32, from: Address) -> Result<Source, Refuse>
-        ensures source { IsSourceFrom self.now ssrc from result }
-        ensures range { IfOk result (IsSourceOf self.now.heard) }
-    {
-        match self.sources.get(&ssrc) {
-            Some(source) if same_address(&source.from, &from) => Ok(*source),
-            Some(source) => Err(Refuse::Collision {
-                kept: source.from,
-                new: from,
-            }),
-            None if self.sources.len() < MAX_SOURCES => Ok(Source::new(from)),
-            None => Err(Refuse::LimitSources),
-        }
     }
 
     /// Hears a sender report with this NTP timestamp. False where the source is not kept.
@@ -198,7 +180,8 @@ impl SourceTable {
     /// The blocks of all sources that are valid and spoke since their last block, in table order. Their next
     /// blocks begin new intervals. After a refusal the table is as before.
     pub fn blocks(&mut self, alloc: Global, now: u64) -> Result<Vec<ReportBlock>, OutOfMemory>
-        ensures ok { IfOk result (λ list. (list.items ≡ blocks self.old now) × (self.new ≡ all_reported self.old)) }
+        ensures ok { IfOk result (λ list. (list.items ≡ blocks self.old now)
+            × (self.new ≡ all_reported self.old)) }
         ensures stands { OnOk result (Extends self.old (Blocks now) self.new) }
         // A report block has 24 bits for the loss.
         ensures fits { IfOk result (λ list. AllByRecursion LossFits list.items) }
@@ -230,7 +213,8 @@ impl SourceTable {
     /// Removes each source that said BYE, or whose last packet of RTP or sender report came more than
     /// `timeout` before `now`, and gives their SSRCs in table order. After a refusal the table is as before.
     pub fn expire(&mut self, alloc: Global, now: u64, timeout: u64) -> Result<Vec<u32>, OutOfMemory>
-        ensures ok { IfOk result (λ ssrcs. (ssrcs.items ≡ gone self.old now timeout) × (self.new ≡ expired self.old now timeout)) }
+        ensures ok { IfOk result (λ ssrcs. (ssrcs.items ≡ gone self.old now timeout)
+            × (self.new ≡ expired self.old now timeout)) }
         ensures stands { OnOk result (Extends self.old (Expires now timeout) self.new) }
         ensures err { OnErr result (self.new ≡ self.old) }
     {
