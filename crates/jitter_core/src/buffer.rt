@@ -106,9 +106,12 @@ impl Buffer {
         ensures settings { settings_of self.new ≡ settings_of self.old }
         ensures count { pushes_of self.new ≡ pushes_of self.old + 1 }
         ensures time { now_of self.new ≡ max a.stamp (now_of self.old) }
-        ensures value { (h : History) → Stands self.old h → result ≡ reply_to_push (settings_of self.old) h a }
-        ensures stands { (h : History) → Stands self.old h → Stands self.new (Push a result.verdict result.number result.aside_dropped ∷ h) }
-        ensures quick { (h : History) → Stands self.old h → steps.new ≤ steps.old + 64 * (gaps (settings_of self.old) h + 2) }
+        ensures value { (h : History) → Stands self.old h
+            → result ≡ reply_to_push (settings_of self.old) h a }
+        ensures stands { (h : History) → Stands self.old h
+            → Stands self.new (Push a result.verdict result.number result.aside_dropped ∷ h) }
+        ensures quick { (h : History) → Stands self.old h
+            → steps.new ≤ steps.old + 64 * (gaps (settings_of self.old) h + 2) }
         ensures few_steps { steps.new ≤ steps.old + 42 }
     {
         push_on(&mut self.state, &mut self.schedule, a, steps)
@@ -122,12 +125,16 @@ impl Buffer {
         ensures time { now_of self.new ≡ now_of self.old }
         ensures value { (h : History) → Stands self.old h → result ≡ turn (settings_of self.old) h }
         ensures stands { (h : History) → Stands self.old h → Stands self.new (Turned result ∷ h) }
-        ensures quiet { is_quiet result ≡ true → (h : History) → Stands self.old h → Stands self.new h }
-        ensures measure { (h : History) → Stands self.old h → left_of self.old ≡ left (settings_of self.old) h }
+        ensures quiet { is_quiet result ≡ true → (h : History) → Stands self.old h
+            → Stands self.new h }
+        ensures measure { (h : History) → Stands self.old h
+            → left_of self.old ≡ left (settings_of self.old) h }
         ensures left { is_quiet result ≡ false → left_of self.new < left_of self.old }
         ensures later { IsLater (now_of self.old) (wake_of result) }
-        ensures timers { is_idle result ≡ true → (h : History) → Stands self.old h → (n : ℕ) → map.get (timers_of self.new).times n ≡ next_request (settings_of self.old) h n }
-        ensures quick { (h : History) → Stands self.old h → steps.new ≤ steps.old + 64 * (gaps (settings_of self.old) h + 2) }
+        ensures timers { is_idle result ≡ true → (h : History) → Stands self.old h → (n : ℕ)
+            → map.get (timers_of self.new).times n ≡ next_request (settings_of self.old) h n }
+        ensures quick { (h : History) → Stands self.old h
+            → steps.new ≤ steps.old + 64 * (gaps (settings_of self.old) h + 2) }
     {
         // Laws for the proof; the calls do nothing.
         turns_run_out();
@@ -152,7 +159,8 @@ impl Buffer {
         ensures same { pushes_of self.new ≡ pushes_of self.old }
         ensures time { now_of self.new ≡ now_of self.old }
         ensures value { (h : History) → Stands self.old h → result ≡ flush_count h }
-        ensures stands { (h : History) → Stands self.old h → Stands self.new (FlushStart result ∷ h) }
+        ensures stands { (h : History) → Stands self.old h
+            → Stands self.new (FlushStart result ∷ h) }
     {
         self.schedule.stale = true;
         start_flush(&mut self.state)
@@ -183,8 +191,10 @@ impl Buffer {
     /// The presentation time of the RTP timestamp of a sender report (RFC 3550, section 6.4.1), with the
     /// report's NTP time. None while a flush runs, and where the segment has no height.
     pub fn sender_report(&self, ntp_ns: u64, rtp: u32) -> Option<SyncInfo>
-        ensures value { (h : History) → Stands self.now h → result ≡ report (settings_of self.now) h ntp_ns rtp }
-        ensures stands { (h : History) → Stands self.now h → Stands self.now (Report ntp_ns rtp result ∷ h) }
+        ensures value { (h : History) → Stands self.now h
+            → result ≡ report (settings_of self.now) h ntp_ns rtp }
+        ensures stands { (h : History) → Stands self.now h
+            → Stands self.now (Report ntp_ns rtp result ∷ h) }
     {
         report_on(&self.state, ntp_ns, rtp)
     }
@@ -210,7 +220,8 @@ impl Buffer {
 
     /// The held packets, each under its extended sequence number.
     pub fn store(&self) -> &Store<Held>
-        ensures { (h : History) → Stands self.now h → (n : ℕ) → map.get result.now n ≡ held (settings_of self.now) h n }
+        ensures { (h : History) → Stands self.now h → (n : ℕ)
+            → map.get result.now n ≡ held (settings_of self.now) h n }
     {
         &self.state.held
     }

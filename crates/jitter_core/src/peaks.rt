@@ -64,7 +64,8 @@ fn count_below(peaks: &VecDeque<Peak>, number: u64) -> usize
     requires { ArePeaksRising peaks.now.items }
     ensures most { result ≤ deque_len peaks.now }
     ensures below { AllWithin (λ p. p.number < number) peaks.now.items 0 result }
-    ensures others { AllWithin (λ p. number ≤ p.number) peaks.now.items result (deque_len peaks.now) }
+    ensures others { AllWithin (λ p. number ≤ p.number) peaks.now.items result
+        (deque_len peaks.now) }
 {
     peaks.partition_point(|peak| peak.number < number)
 }

@@ -75,7 +75,9 @@ fn first_due(state: &State, number: u64) -> Option<u64>
 fn wish_for_missing(state: &State, number: u64) -> Option<Wish>
     requires bounded { IsBounded state.now }
     requires number { number ≤ 2 ^ 62 }
-    ensures value { option_map wanted_of result ≡ wanted_missing (first_due_by state.now.settings state.now.peaks number) (deadline_of (state_sight state.now) number) }
+    ensures value { option_map wanted_of result
+        ≡ wanted_missing (first_due_by state.now.settings state.now.peaks number)
+        (deadline_of (state_sight state.now) number) }
     ensures small { ForSome result (λ w. w.first < 2 ^ 63 + 2 ^ 37) }
 {
     match first_due(state, number) {
@@ -90,7 +92,8 @@ fn wish_for_missing(state: &State, number: u64) -> Option<Wish>
 /// The requests of the number after the greatest.
 fn wish_for_next(state: &State, top: u64) -> Option<Wish>
     requires { IsBounded state.now }
-    ensures value { option_map wanted_of result ≡ wanted_next state.now.settings state.now.progress.latency top state.now.heights }
+    ensures value { option_map wanted_of result
+        ≡ wanted_next state.now.settings state.now.progress.latency top state.now.heights }
     ensures small { ForSome result (λ w. w.first < 2 ^ 63 + 2 ^ 37) }
 {
     match state.heights.next_time(top) {
@@ -107,7 +110,8 @@ fn wish_for(state: &State, number: u64, ended: bool) -> Option<Wish>
     requires bounded { IsBounded state.now }
     requires number { number ≤ 2 ^ 62 }
     requires ended { ended ≡ have_ended state.now.settings.pushers state.now.progress.ended }
-    ensures value { option_map wanted_of result ≡ wanted state.now.settings (state_sight state.now) number }
+    ensures value { option_map wanted_of result
+        ≡ wanted state.now.settings (state_sight state.now) number }
     ensures small { ForSome result (λ w. w.first < 2 ^ 63 + 2 ^ 37) }
 {
     let top = state.span.top.unwrap_or(0);
@@ -162,7 +166,8 @@ fn first_undue(settings: &Settings, time: u64, first: u64, served: u16) -> u16
 fn due_of(state: &State, number: u64, wish: &Wish) -> Option<Due>
     requires bounded { IsBounded state.now }
     requires first { wish.now.first < 2 ^ 63 + 2 ^ 37 }
-    ensures { option_map asked_of result ≡ asked_for state.now.settings (state_sight state.now) number (Some (wanted_of wish.now)) }
+    ensures { option_map asked_of result
+        ≡ asked_for state.now.settings (state_sight state.now) number (Some (wanted_of wish.now)) }
 {
     let settings = &state.settings;
     let served = state.served.count(number);
@@ -184,7 +189,8 @@ fn due_of(state: &State, number: u64, wish: &Wish) -> Option<Due>
 fn pending_of(state: &State, number: u64, wish: &Wish) -> Option<u64>
     requires bounded { IsBounded state.now }
     requires first { wish.now.first < 2 ^ 63 + 2 ^ 37 }
-    ensures { result ≡ time_of_pending state.now.settings (served_in state.now.served number) (Some (wanted_of wish.now)) }
+    ensures { result ≡ time_of_pending state.now.settings (served_in state.now.served number)
+        (Some (wanted_of wish.now)) }
 {
     let settings = &state.settings;
     let served = state.served.count(number);
@@ -201,7 +207,9 @@ pub fn due_for(state: &State, number: u64, ended: bool) -> Option<Due>
     requires bounded { IsBounded state.now }
     requires number { number ≤ 2 ^ 62 }
     requires ended { ended ≡ have_ended state.now.settings.pushers state.now.progress.ended }
-    ensures { option_map asked_of result ≡ asked_for state.now.settings (state_sight state.now) number (wanted state.now.settings (state_sight state.now) number) }
+    ensures { option_map asked_of result
+        ≡ asked_for state.now.settings (state_sight state.now) number
+        (wanted state.now.settings (state_sight state.now) number) }
 {
     match wish_for(state, number, ended) {
         None => None,

@@ -142,7 +142,9 @@ fn reschedule<L: Ledger>(
     requires number { number ≤ 2 ^ 62 }
     requires room { HasRoom timers.old number }
     requires few { map.len timers.old.times ≤ 8194 }
-    ensures after { IsQueue timers.new timers.old.room (with_timer timers.old.times number (pending state.now.settings (state_sight state.now) number)) }
+    ensures after { IsQueue timers.new timers.old.room
+        (with_timer timers.old.times number
+        (pending state.now.settings (state_sight state.now) number)) }
     ensures quick { steps.new ≤ steps.old + 14 }
 {
     match pending_time(state, number, ended) {

@@ -23,8 +23,10 @@ fn push_counted<L: Ledger>(buffer: &mut Buffer, a: Arrival, blank: Blank) -> Pus
     ensures settings { settings_of buffer.new ≡ settings_of buffer.old }
     ensures count { pushes_of buffer.new ≡ pushes_of buffer.old + 1 }
     ensures time { now_of buffer.new ≡ max a.stamp (now_of buffer.old) }
-    ensures value { (h : History) → Stands buffer.old h → result ≡ reply_to_push (settings_of buffer.old) h a }
-    ensures stands { (h : History) → Stands buffer.old h → Stands buffer.new (Push a result.verdict result.number result.aside_dropped ∷ h) }
+    ensures value { (h : History) → Stands buffer.old h
+        → result ≡ reply_to_push (settings_of buffer.old) h a }
+    ensures stands { (h : History) → Stands buffer.old h
+        → Stands buffer.new (Push a result.verdict result.number result.aside_dropped ∷ h) }
 {
     let mut steps = Steps::<L>::new(blank);
     buffer.push(a, &mut steps)
@@ -38,8 +40,10 @@ pub fn push(buffer: &mut Buffer, a: Arrival) -> Pushed
     ensures settings { settings_of buffer.new ≡ settings_of buffer.old }
     ensures count { pushes_of buffer.new ≡ pushes_of buffer.old + 1 }
     ensures time { now_of buffer.new ≡ max a.stamp (now_of buffer.old) }
-    ensures value { (h : History) → Stands buffer.old h → result ≡ reply_to_push (settings_of buffer.old) h a }
-    ensures stands { (h : History) → Stands buffer.old h → Stands buffer.new (Push a result.verdict result.number result.aside_dropped ∷ h) }
+    ensures value { (h : History) → Stands buffer.old h
+        → result ≡ reply_to_push (settings_of buffer.old) h a }
+    ensures stands { (h : History) → Stands buffer.old h
+        → Stands buffer.new (Push a result.verdict result.number result.aside_dropped ∷ h) }
 {
     push_counted::<Brand>(buffer, a, Blank::new(1))
 }
@@ -51,10 +55,13 @@ fn turn_counted<L: Ledger>(buffer: &mut Buffer, blank: Blank) -> Turn
     ensures settings { settings_of buffer.new ≡ settings_of buffer.old }
     ensures same { pushes_of buffer.new ≡ pushes_of buffer.old }
     ensures time { now_of buffer.new ≡ now_of buffer.old }
-    ensures value { (h : History) → Stands buffer.old h → result ≡ reply_to_turn (settings_of buffer.old) h }
+    ensures value { (h : History) → Stands buffer.old h
+        → result ≡ reply_to_turn (settings_of buffer.old) h }
     ensures stands { (h : History) → Stands buffer.old h → Stands buffer.new (Turned result ∷ h) }
-    ensures quiet { is_quiet result ≡ true → (h : History) → Stands buffer.old h → Stands buffer.new h }
-    ensures measure { (h : History) → Stands buffer.old h → left_of buffer.old ≡ left (settings_of buffer.old) h }
+    ensures quiet { is_quiet result ≡ true → (h : History) → Stands buffer.old h
+        → Stands buffer.new h }
+    ensures measure { (h : History) → Stands buffer.old h
+        → left_of buffer.old ≡ left (settings_of buffer.old) h }
     ensures left { is_quiet result ≡ false → left_of buffer.new < left_of buffer.old }
     ensures later { IsLater (now_of buffer.old) (wake_of result) }
 {
@@ -67,10 +74,13 @@ pub fn turn(buffer: &mut Buffer) -> Turn
     ensures settings { settings_of buffer.new ≡ settings_of buffer.old }
     ensures same { pushes_of buffer.new ≡ pushes_of buffer.old }
     ensures time { now_of buffer.new ≡ now_of buffer.old }
-    ensures value { (h : History) → Stands buffer.old h → result ≡ reply_to_turn (settings_of buffer.old) h }
+    ensures value { (h : History) → Stands buffer.old h
+        → result ≡ reply_to_turn (settings_of buffer.old) h }
     ensures stands { (h : History) → Stands buffer.old h → Stands buffer.new (Turned result ∷ h) }
-    ensures quiet { is_quiet result ≡ true → (h : History) → Stands buffer.old h → Stands buffer.new h }
-    ensures measure { (h : History) → Stands buffer.old h → left_of buffer.old ≡ left (settings_of buffer.old) h }
+    ensures quiet { is_quiet result ≡ true → (h : History) → Stands buffer.old h
+        → Stands buffer.new h }
+    ensures measure { (h : History) → Stands buffer.old h
+        → left_of buffer.old ≡ left (settings_of buffer.old) h }
     ensures left { is_quiet result ≡ false → left_of buffer.new < left_of buffer.old }
     ensures later { IsLater (now_of buffer.old) (wake_of result) }
 {

@@ -37,7 +37,8 @@ fn joined(alloc: Global, numbers: &[u8]) -> Result<String, AllocError>
 }
 
 fn with_more(alloc: Global, mut text: String, numbers: &[u8]) -> Result<String, AllocError>
-    ensures { IfOk result (λ all. string_bytes all ≡ string_bytes text ++ flat_map after_comma numbers.now) }
+    ensures { IfOk result
+        (λ all. string_bytes all ≡ string_bytes text ++ flat_map after_comma numbers.now) }
 {
     for number in numbers {
         let piece = format!(in alloc; ",{number}")?;

@@ -31,7 +31,8 @@ pub(crate) fn offsets_from(
     least: i64,
 ) -> Result<Vec<(u8, u64)>, OutOfMemory>
     requires { AreAbove cname.now least reports.now.entries }
-    ensures { IfOk result (λ offsets. offsets.items ≡ offsets_in cname.now least reports.now.entries) }
+    ensures { IfOk result (λ offsets. offsets.items
+        ≡ offsets_in cname.now least reports.now.entries) }
 {
     let mut offsets = Vec::new(alloc);
     for (lane, report) in reports.iter() {

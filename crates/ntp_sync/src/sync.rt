@@ -52,7 +52,8 @@ impl LaneSync {
     ) -> Result<(), OutOfMemory>
         requires ntp { info.ntp_ns < 2 ^ 63 }
         requires local { info.local < 2 ^ 63 }
-        ensures stands { OnOk result ((calls : List Call) → StandsFor self.old calls → StandsFor self.new (record { lane = lane; cname = cname.now; info = info } ∷ calls)) }
+        ensures stands { OnOk result ((calls : List Call) → StandsFor self.old calls
+            → StandsFor self.new (record { lane = lane; cname = cname.now; info = info } ∷ calls)) }
         ensures err { OnErr result (self.new ≡ self.old) }
     {
         let report = LaneReport {
@@ -66,7 +67,8 @@ impl LaneSync {
     /// The lanes whose last report has this CNAME, in order. A lane's offset, in nanoseconds, is its delta
     /// (the report's NTP time less its local time) less the least delta of these lanes.
     pub fn offsets(&self, alloc: Global, cname: &[u8]) -> Result<Vec<(u8, u64)>, OutOfMemory>
-        ensures { IfOk result (λ offsets. (calls : List Call) → StandsFor self.now calls → AreOffsets (last_report calls) cname.now offsets.items) }
+        ensures { IfOk result (λ offsets. (calls : List Call) → StandsFor self.now calls
+            → AreOffsets (last_report calls) cname.now offsets.items) }
     {
         match least_delta(&self.reports, cname) {
             None => Ok(Vec::new(alloc)),

@@ -4,7 +4,8 @@ ghost use Rattle.std.specs.Prelude.{◌≡◌, ◌+◌, ◌-◌, ◌%◌, ◌^�
 use std::marker::Model;
 use std::mem;
 
-// How many values a list has room for.
+// How many values a list has room for. One far packet may be a stray one, and so may two or three; five in
+// a row are a sender that began anew, so the fifth needs no place here.
 const MOST: u8 = 4;
 
 /// A value and its number.
@@ -107,7 +108,8 @@ impl<T: Drop> AsideList<T> {
 
     /// Whether the number is one above the last one modulo 2^16. Nothing follows an empty list.
     pub fn follows(&self, seq: u16) -> bool
-        ensures { IsTrue result ↔ IsSomeAnd (slice_get self.now (length self.now - 1)) (λ a. seq ≡ (a.0 + 1) % 2 ^ 16) }
+        ensures { IsTrue result ↔ IsSomeAnd (slice_get self.now (length self.now - 1))
+            (λ a. seq ≡ (a.0 + 1) % 2 ^ 16) }
     {
         match self.last_seq() {
             Some(last) => last.wrapping_add(1) == seq,

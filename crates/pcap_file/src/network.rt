@@ -117,7 +117,8 @@ fn read_upper(from: [u8; 16], to: [u8; 16], kind: u16, bytes: &[u8]) -> Result<D
 
 // Passes over extension headers.
 fn behind_extensions(mut kind: u16, mut bytes: &[u8]) -> Result<Carried<'_>, Skip>
-    ensures { inner_of result ≡ behind_extensions_of (length bytes.entry.now + 1) kind bytes.entry.now }
+    ensures { inner_of result
+        ≡ behind_extensions_of (length bytes.entry.now + 1) kind bytes.entry.now }
 {
     while is_extension(kind) {
         if bytes.len() < 2 {

@@ -27,16 +27,19 @@ impl Model for Pcap {
 
     ghost Value = { Place };
 
-    ghost view = { λ pcap. record { format = pcap.format; count = pcap.count; offset = pcap.offset; fault = pcap.fault } };
+    ghost view = { λ pcap. record
+        { format = pcap.format; count = pcap.count; offset = pcap.offset; fault = pcap.fault } };
 
-    ghost invariant = { λ pcap. (pcap.count ≤ 100000000) × (pcap.offset ≤ 24 + 262160 * pcap.count) };
+    ghost invariant = { λ pcap. (pcap.count ≤ 100000000)
+        × (pcap.offset ≤ 24 + 262160 * pcap.count) };
 }
 
 /// Reads the file header of the open file.
 pub fn open_capture<F: Files>(files: &mut F, pull: &mut Pull) -> Result<Pcap, CaptureFault>
     requires countable { F.faults files.old < 2 ^ 64 - 1 }
     ensures same { SameDisk (F.disk files.old) (F.disk files.new) }
-    ensures opened { IsTrue (F.disk files.old).told → (F.disk files.new).opened ≡ (F.disk files.old).opened }
+    ensures opened { IsTrue (F.disk files.old).told
+        → (F.disk files.new).opened ≡ (F.disk files.old).opened }
     ensures bound { length pull.new ≤ 262160 }
     ensures after { AfterOpen result pull.old pull.new (F.disk files.old) (F.disk files.new) }
     ensures cause { HasCaptureCause (F.faults files.old) (F.faults files.new) result }
@@ -71,7 +74,8 @@ pub enum Opened {
 pub fn open_any<F: Files>(files: &mut F, pull: &mut Pull) -> Result<Opened, CaptureFault>
     requires countable { F.faults files.old < 2 ^ 64 - 1 }
     ensures same { SameDisk (F.disk files.old) (F.disk files.new) }
-    ensures opened { IsTrue (F.disk files.old).told → (F.disk files.new).opened ≡ (F.disk files.old).opened }
+    ensures opened { IsTrue (F.disk files.old).told
+        → (F.disk files.new).opened ≡ (F.disk files.old).opened }
     ensures bound { length pull.new ≤ 262160 }
     ensures after { AfterOpenAny result pull.old pull.new (F.disk files.old) (F.disk files.new) }
     ensures cause { HasCaptureCause (F.faults files.old) (F.faults files.new) result }
@@ -115,13 +119,18 @@ impl Pcap {
     ) -> Result<Option<PcapRecord>, CaptureFault>
         requires countable { F.faults files.old < 2 ^ 64 - 1 }
         ensures same { SameDisk (F.disk files.old) (F.disk files.new) }
-        ensures opened { IsTrue (F.disk files.old).told → (F.disk files.new).opened ≡ (F.disk files.old).opened }
+        ensures opened { IsTrue (F.disk files.old).told
+            → (F.disk files.new).opened ≡ (F.disk files.old).opened }
         ensures bound { self.old.fault ≡ None → length pull.new ≤ 262160 }
-        ensures after { self.old.fault ≡ None → AfterNext result self.old self.new pull.old pull.new (F.disk files.old) (F.disk files.new) }
-        ensures cause { self.old.fault ≡ None → HasCaptureCause (F.faults files.old) (F.faults files.new) result }
+        ensures after { self.old.fault ≡ None
+            → AfterNext result self.old self.new pull.old pull.new (F.disk files.old)
+            (F.disk files.new) }
+        ensures cause { self.old.fault ≡ None
+            → HasCaptureCause (F.faults files.old) (F.faults files.new) result }
         ensures keeps { self.old.fault ≡ None → self.new.fault ≡ fault_of result }
         ensures format { self.new.format ≡ self.old.format }
-        ensures repeats { IfSome self.old.fault (λ fault. (result ≡ Err fault) × (self.new ≡ self.old) × (pull.new ≡ pull.old)
+        ensures repeats { IfSome self.old.fault
+            (λ fault. (result ≡ Err fault) × (self.new ≡ self.old) × (pull.new ≡ pull.old)
             × (F.disk files.new ≡ F.disk files.old) × (F.faults files.new ≡ F.faults files.old)) }
     {
         if let Some(fault) = self.fault {

@@ -43,9 +43,11 @@ pub(crate) fn read_record<F: Files>(
 ) -> Result<Option<PcapRecord>, CaptureFault>
     requires countable { F.faults files.old < 2 ^ 64 - 1 }
     ensures same { SameDisk (F.disk files.old) (F.disk files.new) }
-    ensures opened { IsTrue (F.disk files.old).told → (F.disk files.new).opened ≡ (F.disk files.old).opened }
+    ensures opened { IsTrue (F.disk files.old).told
+        → (F.disk files.new).opened ≡ (F.disk files.old).opened }
     ensures bound { length pull.new ≤ 262160 }
-    ensures after { AfterRecord result format count offset pull.old pull.new (F.disk files.old) (F.disk files.new) }
+    ensures after { AfterRecord result format count offset pull.old pull.new (F.disk files.old)
+        (F.disk files.new) }
     ensures cause { HasCaptureCause (F.faults files.old) (F.faults files.new) result }
 {
     let fields = match pull.need(files, 16) {

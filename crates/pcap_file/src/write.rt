@@ -11,7 +11,8 @@ use std::alloc::Global;
 /// The file header of a capture with stamps in nanoseconds and frames of this link type.
 pub fn header_bytes(link: u32) -> [u8; 24]
     ensures bytes { result ≡ written_header link }
-    ensures reads_back { IsTrue (is_link (link % 65536)) → format_of result ≡ Ok (written_format link) }
+    ensures reads_back { IsTrue (is_link (link % 65536))
+        → format_of result ≡ Ok (written_format link) }
 {
     let mut bytes = [0; 24];
     LittleEndian::write_u32(&mut bytes, 0xa1b2_3c4d);

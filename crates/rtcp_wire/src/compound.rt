@@ -23,7 +23,8 @@ pub fn read_compound(alloc: Global, bytes: &[u8]) -> Result<Vec<Rtcp>, RtcpFault
     ensures found { IfOk result (λ packets. IsCompound bytes.now packets.items) }
     ensures texts { IfOk result (λ packets. AllByRecursion HasShortTexts packets.items) }
     // Each compound is read, unless memory runs out.
-    ensures only { (packets : List Rtcp) → IsCompound bytes.now packets → Gives (λ found. found.items) result (Ok packets) }
+    ensures only { (packets : List Rtcp) → IsCompound bytes.now packets
+        → Gives (λ found. found.items) result (Ok packets) }
     // Which fault it is: the first failing test, all headers before the bodies.
     ensures exact { Gives (λ packets. packets.items) result (compound_of bytes.now) }
 {
@@ -40,7 +41,8 @@ fn read(alloc: Global, bytes: &[u8]) -> Result<Vec<Rtcp>, RtcpFault>
 
 /// Tests all headers.
 fn check_headers(bytes: &[u8]) -> Result<(), RtcpFault>
-    ensures { MatchResult result (λ _. headers_fault (length bytes.now) 0 bytes.now ≡ None) (λ fault. headers_fault (length bytes.now) 0 bytes.now ≡ Some fault) }
+    ensures { MatchResult result (λ _. headers_fault (length bytes.now) 0 bytes.now ≡ None)
+        (λ fault. headers_fault (length bytes.now) 0 bytes.now ≡ Some fault) }
 {
     let mut offset = 0;
     let mut rest = bytes;

@@ -48,7 +48,9 @@ pub(crate) fn packet_body(bytes: &[u8]) -> &[u8]
 
 /// Tests the header at this offset, and gives the size of its packet.
 pub(crate) fn check_header(offset: usize, bytes: &[u8]) -> Result<usize, RtcpFault>
-    ensures { MatchResult result (λ size. (header_fault offset bytes.now ≡ None) × (size ≡ size_of bytes.now) × (4 ≤ size) × (size ≤ length bytes.now))
+    ensures { MatchResult result
+        (λ size. (header_fault offset bytes.now ≡ None) × (size ≡ size_of bytes.now) × (4 ≤ size)
+        × (size ≤ length bytes.now))
         (λ fault. header_fault offset bytes.now ≡ Some fault) }
 {
     if bytes.len() < HEADER_SIZE {

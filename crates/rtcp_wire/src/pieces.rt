@@ -59,7 +59,8 @@ fn push_i24(out: &mut Vec<u8>, number: i32) -> Result<(), OutOfMemory>
 }
 
 pub(crate) fn push_entries(out: &mut Vec<u8>, entries: &[Nack]) -> Result<(), OutOfMemory>
-    ensures bytes { OnOk result (out.new.items ≡ out.old.items ++ flat_map entry_bytes entries.now) }
+    ensures bytes { OnOk result
+        (out.new.items ≡ out.old.items ++ flat_map entry_bytes entries.now) }
     ensures range { OnOk result (AllByRecursion EntryInRange entries.now) }
 {
     for entry in entries {

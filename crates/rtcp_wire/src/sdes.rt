@@ -73,7 +73,8 @@ fn read_items(
     steps: usize,
     bytes: &[u8],
 ) -> Result<Option<(Items<SdesItem>, &[u8])>, OutOfMemory>
-    ensures value { IfOk result (λ found. option_map (λ x. (x.0, x.1.now)) found ≡ items_at steps bytes.now) }
+    ensures value { IfOk result
+        (λ found. option_map (λ x. (x.0, x.1.now)) found ≡ items_at steps bytes.now) }
     ensures shorter { IfOk result (λ found. IfSome found (λ x. length x.1.now < length bytes.now)) }
 {
     let mut items = Items::new(alloc);

@@ -43,7 +43,8 @@ impl Model for SsrcDemux {
 
     ghost view = { λ d. d.lanes.entries };
 
-    ghost invariant = { λ d. (length d.lanes.entries ≤ 64) × (64 ≤ length d.lanes.entries + spare d.lanes) };
+    ghost invariant = { λ d. (length d.lanes.entries ≤ 64)
+        × (64 ≤ length d.lanes.entries + spare d.lanes) };
 }
 
 impl SsrcDemux {
@@ -60,7 +61,8 @@ impl SsrcDemux {
     /// next number, as long as there are fewer than 64 lanes.
     pub fn lane(&mut self, session: u8, ssrc: u32, rate: u32) -> LaneOf
         ensures answer { IsLane self.old (sight session ssrc rate) result }
-        ensures stands { (calls : List Sight) → StandsFor self.old calls → StandsFor self.new (sight session ssrc rate ∷ calls) }
+        ensures stands { (calls : List Sight) → StandsFor self.old calls
+            → StandsFor self.new (sight session ssrc rate ∷ calls) }
     {
         let answer = self.peek(session, ssrc, rate);
         if let LaneOf::New(_) = answer {
@@ -104,7 +106,8 @@ fn next_lane(count: usize) -> LaneOf
 /// The number of a stream's lane and the rate that it began with.
 fn seen(lanes: &IndexMap<Stream, u32>, stream: Stream) -> Option<(u8, u32)>
     requires { length lanes.now.entries ≤ 64 }
-    ensures { MatchOption result (rate_of lanes.now.entries stream ≡ None) (λ x. slice_get lanes.now.entries x.0 ≡ Some (stream, x.1)) }
+    ensures { MatchOption result (rate_of lanes.now.entries stream ≡ None)
+        (λ x. slice_get lanes.now.entries x.0 ≡ Some (stream, x.1)) }
 {
     let (lane, _stream, rate) = lanes.get_full(&stream)?;
     Some((lane as u8, *rate))

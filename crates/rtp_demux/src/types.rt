@@ -61,8 +61,10 @@ impl PtDemux {
 
     /// The route of a packet of this payload type.
     pub fn route(&mut self, pt: u8) -> PtRoute
-        ensures answer { (rates : List (ℕ × ℕ)) (calls : List ℕ) → StandsFor self.old rates calls → result ≡ route_of rates calls pt }
-        ensures stands { (rates : List (ℕ × ℕ)) (calls : List ℕ) → StandsFor self.old rates calls → StandsFor self.new rates (pt ∷ calls) }
+        ensures answer { (rates : List (ℕ × ℕ)) (calls : List ℕ) → StandsFor self.old rates calls
+            → result ≡ route_of rates calls pt }
+        ensures stands { (rates : List (ℕ × ℕ)) (calls : List ℕ) → StandsFor self.old rates calls
+            → StandsFor self.new rates (pt ∷ calls) }
     {
         match self.routes.get(&pt) {
             None => PtRoute::Unmapped,
@@ -81,7 +83,8 @@ impl PtDemux {
 /// Notes the first packet of a type that has a route, which takes no memory.
 fn mark(routes: &mut IndexMap<u8, Route>, pt: u8, rate: u32)
     requires { IsSome (lookup (nat_eq pt) routes.old.entries) }
-    ensures { (q : ℕ) → lookup (nat_eq q) routes.new.entries ≡ cond (nat_eq pt q) (Some (route rate true)) (lookup (nat_eq q) routes.old.entries) }
+    ensures { (q : ℕ) → lookup (nat_eq q) routes.new.entries
+        ≡ cond (nat_eq pt q) (Some (route rate true)) (lookup (nat_eq q) routes.old.entries) }
 {
     match routes.insert(pt, Route { rate, routed: true }) {
         Ok(_) => {}

@@ -40,7 +40,8 @@ impl<'a> HostFiles<'a> {
 }
 
 impl Files for HostFiles<'_> {
-    ghost disk = { λ _. record { told = false; may_open = λ _. true; contents = λ _. []; opened = None; left = [] } };
+    ghost disk = { λ _. record
+        { told = false; may_open = λ _. true; contents = λ _. []; opened = None; left = [] } };
 
     ghost faults = { λ files. files.faults };
 

@@ -34,8 +34,12 @@ impl Files for MemoryFiles {
         ensures cause { HasCause (memory_faults self.old) (memory_faults self.new) result }
 
         // It fails exactly where it is to fail or the name isn't there.
-        ensures passes { OnOk result (¬ (IsNextToFail (failing_calls self.old) (call_count self.old)) × (is_held self.old name.now ≡ true)) }
-        ensures fails { OnErr result (IsNextToFail (failing_calls self.old) (call_count self.old) ⊎ (is_held self.old name.now ≡ false)) }
+        ensures passes { OnOk result
+            (¬ (IsNextToFail (failing_calls self.old) (call_count self.old))
+            × (is_held self.old name.now ≡ true)) }
+        ensures fails { OnErr result
+            (IsNextToFail (failing_calls self.old) (call_count self.old)
+            ⊎ (is_held self.old name.now ≡ false)) }
         ensures counted { CountsCall self.old self.new }
     {
         if is_to_fail(&self.failing, &mut self.calls) {
@@ -56,14 +60,18 @@ impl Files for MemoryFiles {
         requires countable { memory_faults self.old < 2 ^ 64 - 1 }
         ensures same { SameDisk (memory_disk self.old) (memory_disk self.new) }
         ensures bound { IfOk result (λ n. n ≤ length buf.new) }
-        ensures given { IfOk result (λ n. Gives (take n buf.new) (memory_disk self.old) (memory_disk self.new)) }
+        ensures given { IfOk result
+            (λ n. Gives (take n buf.new) (memory_disk self.old) (memory_disk self.new)) }
         ensures kept { OnErr result (Stays (memory_disk self.old) (memory_disk self.new)) }
         ensures cause { HasCause (memory_faults self.old) (memory_faults self.new) result }
 
         // It fails exactly where it is to fail, and gives all that it can within the step.
-        ensures passes { OnOk result (¬ (IsNextToFail (failing_calls self.old) (call_count self.old))) }
+        ensures passes { OnOk result
+            (¬ (IsNextToFail (failing_calls self.old) (call_count self.old))) }
         ensures fails { OnErr result (IsNextToFail (failing_calls self.old) (call_count self.old)) }
-        ensures size { IfOk result (λ n. n ≡ held_to (memory_step self.old) (min (length buf.old) (length (memory_disk self.old).left))) }
+        ensures size { IfOk result
+            (λ n. n ≡ held_to (memory_step self.old)
+            (min (length buf.old) (length (memory_disk self.old).left))) }
         ensures counted { CountsCall self.old self.new }
     {
         if is_to_fail(&self.failing, &mut self.calls) {
@@ -99,8 +107,11 @@ impl MemoryFiles {
     /// Adds a file under a name that isn't there yet. A call that was refused memory changes nothing.
     pub fn add(&mut self, alloc: Global, name: &str, bytes: &[u8]) -> Result<(), OutOfMemory>
         requires { is_held self.old name.now ≡ false }
-        ensures ok { OnOk result (AddsFile name.now bytes.now (memory_disk self.old) (memory_disk self.new)) }
-        ensures held { OnOk result ((other : List ℕ) → is_held self.new other ≡ (bytes_eq name.now other || is_held self.old other)) }
+        ensures ok { OnOk result
+            (AddsFile name.now bytes.now (memory_disk self.old) (memory_disk self.new)) }
+        ensures held { OnOk result
+            ((other : List ℕ)
+            → is_held self.new other ≡ (bytes_eq name.now other || is_held self.old other)) }
         ensures err { OnErr result (memory_disk self.new ≡ memory_disk self.old) }
         ensures same { OnErr result (is_held self.new ≡ is_held self.old) }
         ensures faults { memory_faults self.new ≡ memory_faults self.old }

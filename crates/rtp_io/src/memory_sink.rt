@@ -32,18 +32,26 @@ impl Sink for MemorySink {
         requires countable { memory_sink_faults self.old < 2 ^ 64 - 1 }
         ensures progress { IfOk result (λ n. 0 < n) }
         ensures bound { IfOk result (λ n. n ≤ length piece.now) }
-        ensures added { IfOk result (λ n. Adds (take n piece.now) (memory_written self.old) (memory_written self.new)) }
+        ensures added { IfOk result
+            (λ n. Adds (take n piece.now) (memory_written self.old) (memory_written self.new)) }
         ensures none { OnErr result (Adds [] (memory_written self.old) (memory_written self.new)) }
-        ensures cause { HasCause (memory_sink_faults self.old) (memory_sink_faults self.new) result }
+        ensures cause { HasCause (memory_sink_faults self.old)
+            (memory_sink_faults self.new) result }
 
         // The bytes are told exactly while they fit the room.
-        ensures told { IfOk result (λ n. TellsWhile (memory_room self.old) n (memory_written self.old) (memory_written self.new)) }
+        ensures told { IfOk result
+            (λ n. TellsWhile (memory_room self.old) n (memory_written self.old)
+            (memory_written self.new)) }
         ensures kept { OnErr result (memory_written self.new ≡ memory_written self.old) }
 
         // It fails exactly where it is to fail, and takes all that it can within the step.
-        ensures passes { OnOk result (¬ (IsNextToFail (failing_writes self.old) (write_count self.old))) }
-        ensures fails { OnErr result (IsNextToFail (failing_writes self.old) (write_count self.old)) }
-        ensures taken { IfOk result (λ n. IsTaken (memory_sink_step self.old) (length piece.now) n (memory_written self.new)) }
+        ensures passes { OnOk result
+            (¬ (IsNextToFail (failing_writes self.old) (write_count self.old))) }
+        ensures fails { OnErr result
+            (IsNextToFail (failing_writes self.old) (write_count self.old)) }
+        ensures taken { IfOk result
+            (λ n. IsTaken (memory_sink_step self.old) (length piece.now) n
+            (memory_written self.new)) }
         ensures counted { CountsWrite self.old self.new }
     {
         if is_to_fail(&self.failing, &mut self.calls) {

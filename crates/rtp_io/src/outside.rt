@@ -23,7 +23,8 @@ pub trait Files {
         requires may_open { IsTrue ((disk self.old).may_open name.now) }
         requires countable { faults self.old < 2 ^ 64 - 1 }
         ensures same { SameDisk (disk self.old) (disk self.new) }
-        ensures opened { IsTrue (disk self.old).told → OnOk result (IsOpened name.now (disk self.new)) }
+        ensures opened { IsTrue (disk self.old).told
+            → OnOk result (IsOpened name.now (disk self.new)) }
         ensures closed { IsTrue (disk self.old).told → OnErr result (IsClosed (disk self.new)) }
         ensures cause { HasCause (faults self.old) (faults self.new) result };
 
@@ -34,8 +35,10 @@ pub trait Files {
         requires countable { faults self.old < 2 ^ 64 - 1 }
         ensures same { SameDisk (disk self.old) (disk self.new) }
         ensures bound { IfOk result (λ n. n ≤ length buf.new) }
-        ensures given { IsTrue (disk self.old).told → IfOk result (λ n. Gives (take n buf.new) (disk self.old) (disk self.new)) }
-        ensures kept { IsTrue (disk self.old).told → OnErr result (Stays (disk self.old) (disk self.new)) }
+        ensures given { IsTrue (disk self.old).told
+            → IfOk result (λ n. Gives (take n buf.new) (disk self.old) (disk self.new)) }
+        ensures kept { IsTrue (disk self.old).told
+            → OnErr result (Stays (disk self.old) (disk self.new)) }
         ensures cause { HasCause (faults self.old) (faults self.new) result };
 }
 
@@ -53,7 +56,8 @@ pub trait Sink {
         requires countable { faults self.old < 2 ^ 64 - 1 }
         ensures progress { IfOk result (λ n. 0 < n) }
         ensures bound { IfOk result (λ n. n ≤ length piece.now) }
-        ensures added { IfOk result (λ n. Adds (take n piece.now) (written self.old) (written self.new)) }
+        ensures added { IfOk result
+            (λ n. Adds (take n piece.now) (written self.old) (written self.new)) }
         ensures none { OnErr result (Adds [] (written self.old) (written self.new)) }
         ensures cause { HasCause (faults self.old) (faults self.new) result };
 }

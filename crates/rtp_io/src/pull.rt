@@ -38,7 +38,8 @@ impl Model for Pull {
 
     ghost view = { λ pull. take (pull.end - pull.start) (drop pull.start pull.buf.items) };
 
-    ghost invariant = { λ pull. (pull.start ≤ pull.end) × (pull.end ≤ 262160) × (length pull.buf.items ≡ 262160) };
+    ghost invariant = { λ pull. (pull.start ≤ pull.end) × (pull.end ≤ 262160)
+        × (length pull.buf.items ≡ 262160) };
 }
 
 impl Pull {
@@ -64,7 +65,8 @@ impl Pull {
         requires n { n ≤ 262160 }
         requires countable { F.faults files.old < 2 ^ 64 - 1 }
         ensures length { IfOk result (λ bytes. length bytes.now ≡ n) }
-        ensures* after { sem 𝓛 (Rests the_row self.entry (λ new. AfterNeed n result self.old new (F.disk files.old) (F.disk files.new))) }
+        ensures* after { sem 𝓛 (Rests the_row self.entry
+            (λ new. AfterNeed n result self.old new (F.disk files.old) (F.disk files.new))) }
         ensures cause { HasPullCause (F.faults files.old) (F.faults files.new) result }
         ensures lazy { n ≤ length self.old → F.disk files.new ≡ F.disk files.old }
     {
@@ -90,10 +92,11 @@ fn make_room(buf: &mut [u8], start: &mut usize, end: &mut usize, n: usize)
     ensures order { start.new ≤ end.new }
     ensures bound { end.new ≤ length buf.new }
     ensures room { start.new + n ≤ length buf.new }
-    ensures same { take (end.new - start.new) (drop start.new buf.new) ≡ take (end.old - start.old) (drop start.old buf.old) }
+    ensures same { take (end.new - start.new) (drop start.new buf.new)
+        ≡ take (end.old - start.old) (drop start.old buf.old) }
 {
     if buf.len() - *start < n {
-        buf.rotate_left(*start);
+        buf.copy_within(*start..*end, 0);
         *end -= *start;
         *start = 0;
     }
@@ -113,7 +116,8 @@ pub(crate) fn top_up<F: Files>(
     requires countable { F.faults files.old < 2 ^ 64 - 1 }
     ensures order { end.old ≤ end.new }
     ensures bound { end.new ≤ length buf.new }
-    ensures kept { Keeps (take (end.old - start) (drop start buf.old)) (take (end.new - start) (drop start buf.new)) (F.disk files.old) (F.disk files.new) }
+    ensures kept { Keeps (take (end.old - start) (drop start buf.old))
+        (take (end.new - start) (drop start buf.new)) (F.disk files.old) (F.disk files.new) }
     ensures full { OnOk result (n ≤ end.new - start) }
     ensures end { TopUpEnds n (end.new - start) result (F.disk files.new) }
     ensures cause { HasPullCause (F.faults files.old) (F.faults files.new) result }
@@ -136,8 +140,11 @@ fn read_behind<F: Files>(files: &mut F, buf: &mut [u8], end: usize) -> Result<us
     ensures same { SameDisk (F.disk files.old) (F.disk files.new) }
     ensures front { take end buf.new ≡ take end buf.old }
     ensures bound { IfOk result (λ n. end + n ≤ length buf.new) }
-    ensures given { IsTrue (F.disk files.old).told → IfOk result (λ n. Gives (take n (drop end buf.new)) (F.disk files.old) (F.disk files.new)) }
-    ensures kept { IsTrue (F.disk files.old).told → OnErr result (Stays (F.disk files.old) (F.disk files.new)) }
+    ensures given { IsTrue (F.disk files.old).told
+        → IfOk result (λ n. Gives (take n (drop end buf.new))
+        (F.disk files.old) (F.disk files.new)) }
+    ensures kept { IsTrue (F.disk files.old).told
+        → OnErr result (Stays (F.disk files.old) (F.disk files.new)) }
     ensures cause { HasReadCause (F.faults files.old) (F.faults files.new) result }
 {
     match files.read(&mut buf[end..]) {

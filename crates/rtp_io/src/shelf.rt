@@ -48,8 +48,12 @@ impl Shelf {
     /// Adds a file. A call that was refused memory changes nothing.
     pub fn add(&mut self, alloc: Global, name: &str, bytes: &[u8]) -> Result<(), OutOfMemory>
         requires { known self.old name.now ≡ false }
-        ensures ok { OnOk result ((p : List ℕ → Bool) → AddsFile name.now bytes.now (disk_of p self.old) (disk_of p self.new)) }
-        ensures known { OnOk result ((other : List ℕ) → known self.new other ≡ (bytes_eq name.now other || known self.old other)) }
+        ensures ok { OnOk result
+            ((p : List ℕ → Bool)
+            → AddsFile name.now bytes.now (disk_of p self.old) (disk_of p self.new)) }
+        ensures known { OnOk result
+            ((other : List ℕ)
+            → known self.new other ≡ (bytes_eq name.now other || known self.old other)) }
         ensures err { OnErr result ((p : List ℕ → Bool) → disk_of p self.new ≡ disk_of p self.old) }
         ensures same { OnErr result (known self.new ≡ known self.old) }
         ensures step { self.new.step ≡ self.old.step }
@@ -77,7 +81,8 @@ impl Shelf {
         ensures known { result ≡ known self.old name.now }
         ensures same { (p : List ℕ → Bool) → SameDisk (disk_of p self.old) (disk_of p self.new) }
         ensures held { known self.new ≡ known self.old }
-        ensures opened { result ≡ true → (p : List ℕ → Bool) → IsOpened name.now (disk_of p self.new) }
+        ensures opened { result ≡ true → (p : List ℕ → Bool)
+            → IsOpened name.now (disk_of p self.new) }
         ensures closed { result ≡ false → (p : List ℕ → Bool) → IsClosed (disk_of p self.new) }
         ensures step { self.new.step ≡ self.old.step }
     {
@@ -116,9 +121,12 @@ impl Shelf {
         ensures bound { result ≤ length buf.new }
         ensures same { (p : List ℕ → Bool) → SameDisk (disk_of p self.old) (disk_of p self.new) }
         ensures held { known self.new ≡ known self.old }
-        ensures gives { (p : List ℕ → Bool) → Gives (take result buf.new) (disk_of p self.old) (disk_of p self.new) }
+        ensures gives { (p : List ℕ → Bool)
+            → Gives (take result buf.new) (disk_of p self.old) (disk_of p self.new) }
         ensures step { self.new.step ≡ self.old.step }
-        ensures size { (p : List ℕ → Bool) → result ≡ held_to self.old.step (min (length buf.old) (length (disk_of p self.old).left)) }
+        ensures size { (p : List ℕ → Bool)
+            → result ≡ held_to self.old.step
+            (min (length buf.old) (length (disk_of p self.old).left)) }
     {
         let left = self.left();
         let position = self.position;

@@ -43,12 +43,15 @@ impl Files for SureFiles {
         requires room { 0 < length buf.old }
         ensures same { SameDisk (sure_disk self.old) (sure_disk self.new) }
         ensures bound { IfOk result (λ n. n ≤ length buf.new) }
-        ensures given { IfOk result (λ n. Gives (take n buf.new) (sure_disk self.old) (sure_disk self.new)) }
+        ensures given { IfOk result
+            (λ n. Gives (take n buf.new) (sure_disk self.old) (sure_disk self.new)) }
         ensures kept { OnErr result (Stays (sure_disk self.old) (sure_disk self.new)) }
         ensures cause { HasCause 0 0 result }
 
         // It gives all that it can within the step.
-        ensures size { IfOk result (λ n. n ≡ held_to (sure_step self.old) (min (length buf.old) (length (sure_disk self.old).left))) }
+        ensures size { IfOk result
+            (λ n. n ≡ held_to (sure_step self.old)
+            (min (length buf.old) (length (sure_disk self.old).left))) }
         ensures step { sure_step self.new ≡ sure_step self.old }
     {
         Ok(self.shelf.give(buf))
@@ -62,7 +65,8 @@ impl SureFiles {
     /// No files and no step.
     pub fn new(alloc: Global) -> Result<SureFiles, OutOfMemory>
         ensures bare { IfOk result (λ files. IsBare (sure_disk files)) }
-        ensures held { IfOk result (λ files. (name : List ℕ) → (sure_disk files).may_open name ≡ false) }
+        ensures held { IfOk result
+            (λ files. (name : List ℕ) → (sure_disk files).may_open name ≡ false) }
         ensures step { IfOk result (λ files. sure_step files ≡ None) }
     {
         Ok(SureFiles {
@@ -73,8 +77,12 @@ impl SureFiles {
     /// Adds a file under a name that isn't there yet. A call that was refused memory changes nothing.
     pub fn add(&mut self, alloc: Global, name: &str, bytes: &[u8]) -> Result<(), OutOfMemory>
         requires { (sure_disk self.old).may_open name.now ≡ false }
-        ensures ok { OnOk result (AddsFile name.now bytes.now (sure_disk self.old) (sure_disk self.new)) }
-        ensures held { OnOk result ((other : List ℕ) → (sure_disk self.new).may_open other ≡ (bytes_eq name.now other || (sure_disk self.old).may_open other)) }
+        ensures ok { OnOk result
+            (AddsFile name.now bytes.now (sure_disk self.old) (sure_disk self.new)) }
+        ensures held { OnOk result
+            ((other : List ℕ)
+            → (sure_disk self.new).may_open other
+            ≡ (bytes_eq name.now other || (sure_disk self.old).may_open other)) }
         ensures err { OnErr result (sure_disk self.new ≡ sure_disk self.old) }
         ensures step { sure_step self.new ≡ sure_step self.old }
     {
@@ -119,12 +127,14 @@ impl Sink for SureSink {
         requires some { 0 < length piece.now }
         ensures progress { IfOk result (λ n. 0 < n) }
         ensures bound { IfOk result (λ n. n ≤ length piece.now) }
-        ensures added { IfOk result (λ n. Adds (take n piece.now) (sure_written self.old) (sure_written self.new)) }
+        ensures added { IfOk result
+            (λ n. Adds (take n piece.now) (sure_written self.old) (sure_written self.new)) }
         ensures none { OnErr result (Adds [] (sure_written self.old) (sure_written self.new)) }
         ensures cause { HasCause 0 0 result }
 
         // The bytes are told exactly while they fit the room.
-        ensures told { IfOk result (λ n. TellsWhile (sure_room self.old) n (sure_written self.old) (sure_written self.new)) }
+        ensures told { IfOk result
+            (λ n. TellsWhile (sure_room self.old) n (sure_written self.old) (sure_written self.new)) }
         ensures room { sure_room self.new ≡ sure_room self.old }
         ensures all { IfOk result (λ n. n ≡ length piece.now) }
     {

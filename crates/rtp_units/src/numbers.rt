@@ -54,7 +54,12 @@ pub fn ticks_to_ns(ticks: i128, rate: u32) -> i128
     ensures above { negsuc 19807040628566084398385987584 ≤ℤ result }
     ensures below { result ≤ℤ pos 19807040628566084398385987584 }
 {
-    ticks * 1_000_000_000 / i128::from(rate)
+    // A product of 64 bits is divided at once. One of 128 bits takes a call of some fifty instructions.
+    if -9_000_000_000 <= ticks && ticks <= 9_000_000_000 {
+        i128::from(ticks as i64 * 1_000_000_000 / i64::from(rate))
+    } else {
+        ticks * 1_000_000_000 / i128::from(rate)
+    }
 }
 
 /// A time in nanoseconds, held to the range from 0 to 2^63 - 1.

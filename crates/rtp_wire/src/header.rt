@@ -63,8 +63,10 @@ pub(crate) fn csrcs_of(bytes: &[u8]) -> ArrayVec<u32, 15>
 /// The extension of a packet that has it all, if there is one.
 pub(crate) fn extension_of(bytes: &[u8]) -> Option<(u16, &[u8])>
     requires fixed { 12 ≤ length bytes.now }
-    requires whole { extension_bit bytes.now ≡ true → end_of_extension bytes.now ≤ length bytes.now }
-    ensures value { option_map (λ x. (x.0, x.1.now)) result ≡ extension_in bytes.now (extension_bit bytes.now) (end_of_csrcs bytes.now) }
+    requires whole { extension_bit bytes.now ≡ true
+        → end_of_extension bytes.now ≤ length bytes.now }
+    ensures value { option_map (λ x. (x.0, x.1.now)) result
+        ≡ extension_in bytes.now (extension_bit bytes.now) (end_of_csrcs bytes.now) }
     ensures words { IfSome result (λ x. AreWords x.1.now) }
 {
     if !has_extension(bytes) {

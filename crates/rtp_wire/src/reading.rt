@@ -17,9 +17,11 @@ pub fn read(bytes: &[u8]) -> Result<RtpView<'_>, RtpFault>
     // What is read is a packet of these bytes.
     ensures found { IfOk result (λ view. IsPacket view × (view.bytes ≡ bytes.now)) }
     // Each packet of these bytes is read, with its own fields.
-    ensures only { (p : Packet) → IsPacket p → p.bytes ≡ bytes.now → IsOkAnd result (λ view. view ≡ p) }
+    ensures only { (p : Packet) → IsPacket p → p.bytes ≡ bytes.now
+        → IsOkAnd result (λ view. view ≡ p) }
     // Which fault it is.
-    ensures fault { MatchResult result (λ _. first_fault bytes.now ≡ None) (λ fault. first_fault bytes.now ≡ Some fault) }
+    ensures fault { MatchResult result (λ _. first_fault bytes.now ≡ None)
+        (λ fault. first_fault bytes.now ≡ Some fault) }
 {
     let header_end = read_header(bytes)?;
     let padding = read_padding(bytes, header_end)?;
@@ -32,7 +34,8 @@ pub fn read(bytes: &[u8]) -> Result<RtpView<'_>, RtpFault>
 
 /// The place behind the header.
 fn read_header(bytes: &[u8]) -> Result<usize, RtpFault>
-    ensures { MatchResult result (IsHeaderEnd bytes.now) (λ fault. first_fault bytes.now ≡ Some fault) }
+    ensures { MatchResult result (IsHeaderEnd bytes.now)
+        (λ fault. first_fault bytes.now ≡ Some fault) }
 {
     if bytes.len() < FIXED_SIZE {
         return Err(RtpFault::Short);
@@ -56,7 +59,8 @@ fn read_header(bytes: &[u8]) -> Result<usize, RtpFault>
 /// How many bytes of padding end the packet.
 fn read_padding(bytes: &[u8], header_end: usize) -> Result<u8, RtpFault>
     requires { IsHeaderEnd bytes.now header_end }
-    ensures { MatchResult result (IsRead bytes.now header_end) (λ fault. first_fault bytes.now ≡ Some fault) }
+    ensures { MatchResult result (IsRead bytes.now header_end)
+        (λ fault. first_fault bytes.now ≡ Some fault) }
 {
     if !has_padding(bytes) {
         return Ok(0);

@@ -34,7 +34,12 @@ impl Model for History {
 
     ghost Value = { Sending };
 
-    ghost view = { λ h. record { setting = setting h.per_stream h.map.lines.items h.map.fids.items; streams = h.streams.entries; numbers = h.numbers.entries } };
+    ghost view = { λ h. record {
+      setting = setting h.per_stream h.map.lines.items h.map.fids.items;
+      streams =
+          h.streams.entries;
+      numbers = h.numbers.entries;
+    } };
 
     ghost invariant = { λ h. AreTypes h.map.lines.items };
 }
@@ -62,8 +67,10 @@ impl History {
         session: u8,
         view: &RtpView<'_>,
     ) -> Result<bool, OutOfMemory>
-        ensures answer { (setting : Setting) (calls : List Call) → StandsFor self.old setting calls → IfOk result (IsRemembered calls (session, view.now.ssrc)) }
-        ensures stands { (setting : Setting) (calls : List Call) → StandsFor self.old setting calls → StandsFor self.new setting (calls_after (Remembers session view.now) calls result) }
+        ensures answer { (setting : Setting) (calls : List Call) → StandsFor self.old setting calls
+            → IfOk result (IsRemembered calls (session, view.now.ssrc)) }
+        ensures stands { (setting : Setting) (calls : List Call) → StandsFor self.old setting calls
+            → StandsFor self.new setting (calls_after (Remembers session view.now) calls result) }
         ensures err { OnErr result (self.new ≡ self.old) }
     {
         let stream = (session, view.ssrc());
@@ -90,8 +97,10 @@ impl History {
         ssrc: u32,
         seq: u16,
     ) -> Result<Option<Retransmission>, OutOfMemory>
-        ensures answer { (setting : Setting) (calls : List Call) → StandsFor self.old setting calls → IsAnswer setting calls session ssrc seq result }
-        ensures stands { (setting : Setting) (calls : List Call) → StandsFor self.old setting calls → StandsFor self.new setting (calls_after (Answers session ssrc seq) calls result) }
+        ensures answer { (setting : Setting) (calls : List Call) → StandsFor self.old setting calls
+            → IsAnswer setting calls session ssrc seq result }
+        ensures stands { (setting : Setting) (calls : List Call) → StandsFor self.old setting calls
+            → StandsFor self.new setting (calls_after (Answers session ssrc seq) calls result) }
         ensures err { OnErr result (self.new ≡ self.old) }
     {
         let Some(sent) = latest(&self.streams, (session, ssrc), seq) else {

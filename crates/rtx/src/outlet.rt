@@ -56,7 +56,8 @@ pub(crate) fn retransmission_bytes(
     packet: &RtpView<'_>,
 ) -> Result<Blob, OutOfMemory>
     requires { outlet.now.pt < 128 }
-    ensures value { IfOk result (λ bytes. bytes ≡ retransmission_spelling outlet.now number packet.now) }
+    ensures value { IfOk result (λ bytes. bytes
+        ≡ retransmission_spelling outlet.now number packet.now) }
     ensures packet { IfOk result (λ bytes.
         IsPacket (retransmission_packet outlet.now number packet.now bytes)) }
 {

@@ -55,7 +55,9 @@ impl Model for Receiver {
 
     ghost Value = { Receiving };
 
-    ghost view = { λ r. receiving (setting r.map.lines.items r.map.fids.items r.by_request) r.requests.items r.associations.items };
+    ghost view = { λ r. receiving
+        (setting r.map.lines.items r.map.fids.items r.by_request) r.requests.items
+        r.associations.items };
 
     ghost invariant = { λ r. AreTypes r.map.lines.items × (r.requests.capacity ≡ 1024) };
 }
@@ -79,8 +81,10 @@ impl Receiver {
 
     /// Notes a request for a sequence number of a stream. The last 1,024 are kept.
     pub fn note_request(&mut self, session: u8, ssrc: u32, seq: u16)
-        ensures after { self.new ≡ with_requests self.old (keep_last 1024 (self.old.requests ++ request session ssrc seq ∷ [])) }
-        ensures stands { (setting : Setting) (calls : List Call) → StandsFor self.old setting calls → StandsFor self.new setting (Notes (request session ssrc seq) ∷ calls) }
+        ensures after { self.new ≡ with_requests self.old
+            (keep_last 1024 (self.old.requests ++ request session ssrc seq ∷ [])) }
+        ensures stands { (setting : Setting) (calls : List Call) → StandsFor self.old setting calls
+            → StandsFor self.new setting (Notes (request session ssrc seq) ∷ calls) }
     {
         self.requests.push_back(Request { session, ssrc, seq });
     }
@@ -94,7 +98,8 @@ impl Receiver {
         view: &RtpView<'_>,
     ) -> Result<Restored, RtxFault>
         ensures answer { Restores self.old session view.now result self.new }
-        ensures stands { (setting : Setting) (calls : List Call) → StandsFor self.old setting calls → StandsFor self.new setting (calls_after (Restoring session view.now) calls result) }
+        ensures stands { (setting : Setting) (calls : List Call) → StandsFor self.old setting calls
+            → StandsFor self.new setting (calls_after (Restoring session view.now) calls result) }
     {
         let original = self.original(session, view)?;
         let bytes = match restored_bytes(alloc, &original, view) {
@@ -161,7 +166,14 @@ impl Receiver {
 }
 
 fn original_by(line: &RtxLine, ssrc: u32, seq: u16, by_request: bool) -> Original
-    ensures { result ≡ record { session = line.now.osession; apt = line.now.apt; ssrc = ssrc; seq = seq; by_request = by_request } }
+    ensures { result ≡ record {
+      session = line.now.osession;
+      apt = line.now.apt;
+      ssrc = ssrc;
+      seq =
+          seq;
+      by_request = by_request;
+    } }
 {
     Original {
         session: line.osession,

@@ -20,7 +20,10 @@ pub(crate) type Streams = IndexMap<Stream, SentPackets>;
 /// Adds a packet of a stream that is remembered, which takes no memory.
 pub(crate) fn add_packet(streams: &mut Streams, stream: Stream, sent: SentPacket)
     requires { IsSome (lookup (is_stream stream) streams.old.entries) }
-    ensures streams { (q : StreamKey) → lookup (is_stream q) streams.new.entries ≡ cond (is_stream stream q) (option_map (pushed sent) (lookup (is_stream stream) streams.old.entries)) (lookup (is_stream q) streams.old.entries) }
+    ensures streams { (q : StreamKey) → lookup (is_stream q) streams.new.entries
+        ≡ cond (is_stream stream q)
+        (option_map (pushed sent) (lookup (is_stream stream) streams.old.entries))
+        (lookup (is_stream q) streams.old.entries) }
     ensures count { length streams.new.entries ≡ length streams.old.entries }
 {
     if let Some(packets) = streams.get_mut(&stream) {
@@ -37,7 +40,10 @@ pub(crate) fn add_stream(
     sent: SentPacket,
 ) -> Result<(), OutOfMemory>
     requires { lookup (is_stream stream) streams.old.entries ≡ None }
-    ensures streams { OnOk result ((q : StreamKey) → lookup (is_stream q) streams.new.entries ≡ cond (is_stream stream q) (Some (pushed sent (buffer [] per_stream))) (lookup (is_stream q) streams.old.entries)) }
+    ensures streams { OnOk result ((q : StreamKey)
+        → lookup (is_stream q) streams.new.entries
+        ≡ cond (is_stream stream q) (Some (pushed sent (buffer [] per_stream)))
+        (lookup (is_stream q) streams.old.entries)) }
     ensures count { OnOk result (length streams.new.entries ≡ length streams.old.entries + 1) }
     ensures err { OnErr result (streams.new.entries ≡ streams.old.entries) }
 {
@@ -49,7 +55,8 @@ pub(crate) fn add_stream(
 
 /// The latest remembered packet with this number.
 pub(crate) fn latest(streams: &Streams, stream: Stream, seq: u16) -> Option<&SentPacket>
-    ensures { option_copied result ≡ option_and_then (λ b. latest_in b.items seq) (lookup (is_stream stream) streams.now.entries) }
+    ensures { option_copied result ≡ option_and_then (λ b. latest_in b.items seq)
+        (lookup (is_stream stream) streams.now.entries) }
 {
     let packets = streams.get(&stream)?;
     packets.latest(seq)
@@ -71,7 +78,10 @@ pub(crate) fn count_on(
     stream: Stream,
     number: u16,
 ) -> Result<(), OutOfMemory>
-    ensures numbers { OnOk result ((q : StreamKey) → lookup (is_stream q) numbers.new.entries ≡ cond (is_stream stream q) (Some ((number + 1) % 65536)) (lookup (is_stream q) numbers.old.entries)) }
+    ensures numbers { OnOk result ((q : StreamKey)
+        → lookup (is_stream q) numbers.new.entries
+        ≡ cond (is_stream stream q) (Some ((number + 1) % 65536))
+        (lookup (is_stream q) numbers.old.entries)) }
     ensures err { OnErr result (numbers.new.entries ≡ numbers.old.entries) }
 {
     numbers.insert(stream, number.wrapping_add(1))?;

@@ -39,7 +39,16 @@ impl Model for Draft {
 
     ghost Value = { Facts };
 
-    ghost view = { λ d. record { sessions = d.sessions.items; pts = map pt_of d.pts.entries; rtx = map rtx_of d.rtx.entries; fids = d.fids.items; settings = d.settings.items; items = d.items.items; flushes = d.flushes } };
+    ghost view = { λ d. record {
+      sessions = d.sessions.items;
+      pts = map pt_of d.pts.entries;
+      rtx = map rtx_of
+          d.rtx.entries;
+      fids = d.fids.items;
+      settings = d.settings.items;
+      items = d.items.items;
+      flushes = d.flushes;
+    } };
 
     ghost invariant = { λ d. IsInOrder d.items.items };
 }

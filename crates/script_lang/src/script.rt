@@ -59,7 +59,23 @@ impl Model for Script {
 
     ghost Value = { Contents };
 
-    ghost view = { λ s. record { sessions = s.sessions.items; pts = s.pts.items; rtx = s.rtx.items; fids = s.fids.items; items = s.items.items; settings = s.settings } };
+    ghost view = { λ s. record {
+      sessions = s.sessions.items;
+      pts = s.pts.items;
+      rtx = s.rtx.items;
+      fids = s.fids.items;
+      items = s.items.items;
+      settings = s.settings;
+    } };
 
-    ghost invariant = { λ s. IsScript (record { sessions = s.sessions.items; pts = s.pts.items; rtx = s.rtx.items; fids = s.fids.items; items = s.items.items; settings = s.settings }) };
+    ghost invariant = { λ s. IsScript
+        (record {
+          sessions = s.sessions.items;
+          pts = s.pts.items;
+          rtx = s.rtx.items;
+          fids =
+              s.fids.items;
+          items = s.items.items;
+          settings = s.settings;
+        }) };
 }

@@ -17,7 +17,8 @@ use std::fmt;
 /// script.
 pub fn write(alloc: Global, script: &Script) -> Result<Blob, OutOfMemory>
     ensures text { IfOk result (λ blob. blob ≡ script_text script.now) }
-    ensures reads_back { IfOk result (λ blob. length blob ≤ 1048576 → read_script blob ≡ Ok script.now) }
+    ensures reads_back { IfOk result
+        (λ blob. length blob ≤ 1048576 → read_script blob ≡ Ok script.now) }
 {
     let mut text = String::new(alloc);
     push_sessions(&mut text, &script.sessions)?;
@@ -30,7 +31,9 @@ pub fn write(alloc: Global, script: &Script) -> Result<Blob, OutOfMemory>
 }
 
 fn push_sessions(text: &mut String, sessions: &[SessionLine]) -> Result<(), OutOfMemory>
-    ensures { OnOk result (string_bytes text.new ≡ string_bytes text.old ++ lines_text (map entry.Session sessions.now)) }
+    ensures { OnOk result
+        (string_bytes text.new ≡ string_bytes text.old
+        ++ lines_text (map entry.Session sessions.now)) }
 {
     for line in sessions {
         push_line(text, Entry::Session(*line))?;
@@ -39,7 +42,8 @@ fn push_sessions(text: &mut String, sessions: &[SessionLine]) -> Result<(), OutO
 }
 
 fn push_pts(text: &mut String, pts: &[PtLine]) -> Result<(), OutOfMemory>
-    ensures { OnOk result (string_bytes text.new ≡ string_bytes text.old ++ lines_text (map entry.Pt pts.now)) }
+    ensures { OnOk result
+        (string_bytes text.new ≡ string_bytes text.old ++ lines_text (map entry.Pt pts.now)) }
 {
     for line in pts {
         push_line(text, Entry::Pt(*line))?;
@@ -48,7 +52,8 @@ fn push_pts(text: &mut String, pts: &[PtLine]) -> Result<(), OutOfMemory>
 }
 
 fn push_rtx(text: &mut String, lines: &[RtxLine]) -> Result<(), OutOfMemory>
-    ensures { OnOk result (string_bytes text.new ≡ string_bytes text.old ++ lines_text (map entry.Rtx lines.now)) }
+    ensures { OnOk result
+        (string_bytes text.new ≡ string_bytes text.old ++ lines_text (map entry.Rtx lines.now)) }
 {
     for line in lines {
         push_line(text, Entry::Rtx(*line))?;
@@ -57,7 +62,8 @@ fn push_rtx(text: &mut String, lines: &[RtxLine]) -> Result<(), OutOfMemory>
 }
 
 fn push_fids(text: &mut String, fids: &[Fid]) -> Result<(), OutOfMemory>
-    ensures { OnOk result (string_bytes text.new ≡ string_bytes text.old ++ lines_text (map entry.Fid fids.now)) }
+    ensures { OnOk result
+        (string_bytes text.new ≡ string_bytes text.old ++ lines_text (map entry.Fid fids.now)) }
 {
     for fid in fids {
         push_line(text, Entry::Fid(*fid))?;
@@ -66,7 +72,9 @@ fn push_fids(text: &mut String, fids: &[Fid]) -> Result<(), OutOfMemory>
 }
 
 fn push_settings(text: &mut String, settings: &[Setting]) -> Result<(), OutOfMemory>
-    ensures { OnOk result (string_bytes text.new ≡ string_bytes text.old ++ lines_text (map entry.Setting settings.now)) }
+    ensures { OnOk result
+        (string_bytes text.new ≡ string_bytes text.old
+        ++ lines_text (map entry.Setting settings.now)) }
 {
     for setting in settings {
         push_line(text, Entry::Setting(*setting))?;
@@ -75,7 +83,8 @@ fn push_settings(text: &mut String, settings: &[Setting]) -> Result<(), OutOfMem
 }
 
 fn push_items(text: &mut String, items: &[Item]) -> Result<(), OutOfMemory>
-    ensures { OnOk result (string_bytes text.new ≡ string_bytes text.old ++ lines_text (map entry.Timed items.now)) }
+    ensures { OnOk result
+        (string_bytes text.new ≡ string_bytes text.old ++ lines_text (map entry.Timed items.now)) }
 {
     for item in items {
         push_line(text, Entry::Timed(*item))?;
@@ -84,7 +93,8 @@ fn push_items(text: &mut String, items: &[Item]) -> Result<(), OutOfMemory>
 }
 
 fn push_line(text: &mut String, entry: Entry) -> Result<(), OutOfMemory>
-    ensures { OnOk result (string_bytes text.new ≡ string_bytes text.old ++ (entry_text entry ++ codes "\n")) }
+    ensures { OnOk result
+        (string_bytes text.new ≡ string_bytes text.old ++ (entry_text entry ++ codes "\n")) }
 {
     write!(text, "{entry}\n")?;
     Ok(())

@@ -89,6 +89,10 @@ fn hundred_twenty_fifth(sum: i128) -> i128
     sum / 125
 }
 
+// The least difference is that of the packets that the network delayed least, so it is what the two
+// clocks differ by. The first few tell little of it: the least counts by the square of how far the window
+// is filled. Later the skew follows slowly, so that one early packet moves no presentation time by much.
+
 /// The skew while the window fills: the mean of the least difference and the skew before.
 pub(crate) fn filling_mean(count: u64, sent: i128, least: i128, skew: i128) -> i128
     requires few { count < 512 }

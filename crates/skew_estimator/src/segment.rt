@@ -140,7 +140,8 @@ pub(crate) fn measure(
     requires to { timestamp ≤ℤ pos (2 ^ 62 + 2 ^ 33) }
     requires near { IsNear segment.now.skew }
     requires fitted { IsFitted segment.now.size window.old }
-    ensures estimate { estimate_of result window.new ≡ cut (in_order rate (estimate_of segment.now window.old) arrival timestamp) }
+    ensures estimate { estimate_of result window.new
+        ≡ cut (in_order rate (estimate_of segment.now window.old) arrival timestamp) }
     ensures fitted { IsFitted result.size window.new }
     ensures near { IsNear result.skew }
     ensures latest { result.latest ≡ timestamp }
@@ -181,7 +182,8 @@ pub(crate) fn advance(
     requires to { timestamp ≤ℤ pos (2 ^ 62 + 2 ^ 33) }
     requires near { IsNear segment.now.skew }
     requires fitted { IsFitted segment.now.size window.old }
-    ensures estimate { estimate_of result window.new ≡ cut (in_mode mode rate (estimate_of segment.now window.old) arrival timestamp) }
+    ensures estimate { estimate_of result window.new
+        ≡ cut (in_mode mode rate (estimate_of segment.now window.old) arrival timestamp) }
     ensures fitted { IsFitted result.size window.new }
     ensures near { IsNear result.skew }
     ensures latest { result.latest ≡ timestamp }

@@ -33,9 +33,11 @@ impl Model for Skew {
 
     ghost use Rattle.skew_estimator.specs.Segment.{estimate_of, IsKept};
 
-    ghost view = { λ s. estimator s.rate s.mode s.heights (option_map (λ g. estimate_of g s.window) s.segment) };
+    ghost view = { λ s. estimator s.rate s.mode s.heights
+        (option_map (λ g. estimate_of g s.window) s.segment) };
 
-    ghost invariant = { λ s. (0 < s.rate) × (s.heights ≤ 2 ^ 31) × MatchOption s.segment ⊤ (λ g. IsKept g s.window s.heights) };
+    ghost invariant = { λ s. (0 < s.rate) × (s.heights ≤ 2 ^ 31)
+        × MatchOption s.segment ⊤ (λ g. IsKept g s.window s.heights) };
 }
 
 impl Skew {
@@ -59,7 +61,8 @@ impl Skew {
     /// Starts a segment at a height with this RTP timestamp. Answers its presentation time.
     pub fn first(&mut self, rtp: u32, arrival: u64) -> u64
         ensures stands { (is_next : Bool) → StandsFor self.new (height rtp arrival is_next ∷ []) }
-        ensures time { (is_next : Bool) → IsHeightTime self.new (height rtp arrival is_next ∷ []) result }
+        ensures time { (is_next : Bool) → IsHeightTime self.new
+            (height rtp arrival is_next ∷ []) result }
         ensures started { IsStarted self.new }
         ensures heights { self.new.heights ≡ 0 }
         ensures rate { self.new.rate ≡ self.old.rate }
@@ -94,8 +97,10 @@ impl Skew {
     pub fn in_order(&mut self, rtp: u32, arrival: u64) -> u64
         requires started { IsStarted self.old }
         requires heights { self.old.heights < 2 ^ 31 }
-        ensures stands { (heights : List Height) → StandsFor self.old heights → StandsFor self.new (height rtp arrival true ∷ heights) }
-        ensures time { (heights : List Height) → StandsFor self.old heights → IsHeightTime self.new (height rtp arrival true ∷ heights) result }
+        ensures stands { (heights : List Height) → StandsFor self.old heights
+            → StandsFor self.new (height rtp arrival true ∷ heights) }
+        ensures time { (heights : List Height) → StandsFor self.old heights
+            → IsHeightTime self.new (height rtp arrival true ∷ heights) result }
         ensures started { IsStarted self.new }
         ensures heights { self.new.heights ≡ self.old.heights + 1 }
         ensures rate { self.new.rate ≡ self.old.rate }
@@ -122,8 +127,10 @@ impl Skew {
     pub fn jump(&mut self, rtp: u32) -> u64
         requires started { IsStarted self.old }
         requires heights { self.old.heights < 2 ^ 31 }
-        ensures stands { (heights : List Height) (arrival : ℕ) → StandsFor self.old heights → StandsFor self.new (height rtp arrival false ∷ heights) }
-        ensures time { (heights : List Height) (arrival : ℕ) → StandsFor self.old heights → IsHeightTime self.new (height rtp arrival false ∷ heights) result }
+        ensures stands { (heights : List Height) (arrival : ℕ) → StandsFor self.old heights
+            → StandsFor self.new (height rtp arrival false ∷ heights) }
+        ensures time { (heights : List Height) (arrival : ℕ) → StandsFor self.old heights
+            → IsHeightTime self.new (height rtp arrival false ∷ heights) result }
         ensures started { IsStarted self.new }
         ensures heights { self.new.heights ≡ self.old.heights + 1 }
         ensures rate { self.new.rate ≡ self.old.rate }
@@ -142,7 +149,8 @@ impl Skew {
     /// The presentation time of any other timestamp.
     pub fn other(&self, rtp: u32) -> u64
         requires { IsStarted self.now }
-        ensures { (heights : List Height) → StandsFor self.now heights → IsOtherTime self.now heights rtp result }
+        ensures { (heights : List Height) → StandsFor self.now heights
+            → IsOtherTime self.now heights rtp result }
     {
         let Some(segment) = self.segment else {
             unreachable!()

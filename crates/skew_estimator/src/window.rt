@@ -29,7 +29,8 @@ impl Model for Window {
 
     ghost view = { λ w. w.differences.items };
 
-    ghost invariant = { λ w. (w.differences.capacity ≡ 512) × (length w.differences.items ≤ 512) × (w.least ≡ least_of w.differences.items) × AreNear w.differences.items };
+    ghost invariant = { λ w. (w.differences.capacity ≡ 512) × (length w.differences.items ≤ 512)
+        × (w.least ≡ least_of w.differences.items) × AreNear w.differences.items };
 }
 
 fn difference_at(differences: &HeapCircularBuffer<i128>, index: usize) -> i128
@@ -60,7 +61,8 @@ fn search(differences: &HeapCircularBuffer<i128>, count: usize, difference: i128
 fn least_without_last(differences: &HeapCircularBuffer<i128>, least: i128, difference: i128) -> i128
     requires some { 0 < length differences.now.items }
     requires least { least ≡ least_of differences.now.items }
-    ensures { result ≡ least_of (difference ∷ take (length differences.now.items - 1) differences.now.items) }
+    ensures { result ≡ least_of
+        (difference ∷ take (length differences.now.items - 1) differences.now.items) }
 {
     if difference <= least {
         return difference;

@@ -35,7 +35,8 @@ impl<T> Model for SlotRing<T> {
 
     ghost view = { λ r. ring (length r.slots.places) (held_in r.slots.places) };
 
-    ghost invariant = { λ r. IsSound r.slots.places r.filled.items r.count × (r.slots.lender ≡ r.alloc) };
+    ghost invariant = { λ r. IsSound r.slots.places r.filled.items r.count
+        × (r.slots.lender ≡ r.alloc) };
 }
 
 /// The slot of a number: the number modulo the count of slots, which is a power of two.
@@ -85,7 +86,8 @@ impl<T> SlotRing<T> {
     /// Holds the value under the number, or gives it back where a held number has the same slot.
     pub fn put(&mut self, number: u64, value: T) -> Result<(), T>
         ensures exactly { IsErr result ↔ IsTaken self.old number }
-        ensures ok { OnOk result (self.new ≡ ring self.old.capacity (map.insert self.old.held number value)) }
+        ensures ok { OnOk result (self.new
+            ≡ ring self.old.capacity (map.insert self.old.held number value)) }
         ensures refused { IfErr result (λ v. (v ≡ value) × (self.new ≡ self.old)) }
     {
         let index = slot_of(number, &self.filled);

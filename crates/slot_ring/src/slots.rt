@@ -49,7 +49,8 @@ impl<T, A: Allocator> Slots<T, A> {
     /// Fills an empty place.
     pub(crate) fn write(&mut self, index: usize, value: T)
         requires { (index < length self.old.places) × (get_or self.old.places index None ≡ None) }
-        ensures { (self.new.places ≡ slice_set self.old.places index (Some value)) × (self.new.lender ≡ self.old.lender) }
+        ensures { (self.new.places ≡ slice_set self.old.places index (Some value))
+            × (self.new.lender ≡ self.old.lender) }
     {
         unsafe { self.start.add(index).write(value) }
     }
@@ -57,7 +58,9 @@ impl<T, A: Allocator> Slots<T, A> {
     /// Moves the value out of a filled place, and leaves it empty.
     pub(crate) fn read(&mut self, index: usize) -> T
         requires { IsFilled self.old.places index }
-        ensures { (get_or self.old.places index None ≡ Some result) × (self.new.places ≡ slice_set self.old.places index None) × (self.new.lender ≡ self.old.lender) }
+        ensures { (get_or self.old.places index None ≡ Some result)
+            × (self.new.places ≡ slice_set self.old.places index None)
+            × (self.new.lender ≡ self.old.lender) }
     {
         unsafe { self.start.add(index).read() }
     }
