@@ -6,10 +6,14 @@ usage: bench/ratios.py PROGRAM
 A hundred thousand packets each, one a millisecond where nothing else is said. A gap of G: every 2 * G
 packets one comes G places ahead of the others. Each ratio is to the first case; those of the lengths, the
 gaps and the requests should stay near 1, since the work for a packet grows neither with what came before
-nor with what is missing.
+nor with what is missing. Where `rustc` is installed, `replay` and `dump` of a million packets are measured
+beside bench/plain/plain.rs, which writes the same lines.
 """
+import filecmp
 import os
 import random
+import shutil
+import subprocess
 import sys
 import tempfile
 
@@ -20,7 +24,8 @@ COUNT = 100_000
 SCRIPT = 'session 0 5004 5005\npt 0 96 90000\nset latency %d\nset probation 0\nset mode none\n'
 REQUESTS = 'rtx 0 97 0 96\nset rtx on\n'
 GAPS = (2, 100, 1_000, 2_900, 8_000)
-LENGTHS = (10_000, 100_000, 1_000_000)
+LENGTHS = (10_000, 100_000, 1_000_000, 10_000_000)
+PLAIN = os.path.join(os.path.dirname(os.path.abspath(__file__)), 'plain', 'plain.rs')
 RUNS = 3
 
 
@@ -77,11 +82,37 @@ def words_of(program, path, script, text):
     return [program, 'replay', path, script]
 
 
+def output_of(words, path):
+    """The path, once what the program writes stands there."""
+    with open(path, 'wb') as file:
+        subprocess.run(words, stdout=file, check=True)
+    return path
+
+
+def beside_plain(program, folder):
+    """Prints processor time of the commands as a multiple of that of the program written by hand."""
+    plain, path, script = (os.path.join(folder, name) for name in ('plain', 'capture', 'script'))
+    subprocess.run(['rustc', '--edition', '2021', '-O', '-o', plain, PLAIN], check=True)
+    write_capture(path, arrivals(1_000_000))
+    pairs = [(words_of(program, path, script, SCRIPT % 60), [plain, 'replay', path, '60']),
+             (words_of(program, path, script, None), [plain, 'dump', path])]
+    for ours, theirs in pairs:
+        logs = [output_of(words, os.path.join(folder, name))
+                for words, name in ((ours, 'ours'), (theirs, 'theirs'))]
+        if not filecmp.cmp(*logs, shallow=False):
+            sys.exit('%s and the plain program write different lines' % ours[1])
+        took, least = (min(usage_of(words)[0] for _ in range(RUNS)) for words in (ours, theirs))
+        print('%-24s %6.2f s, %5.2f of plain Rust' % (ours[1] + ' beside plain', took, took / least),
+              flush=True)
+
+
 def main():
     if len(sys.argv) != 2:
         sys.exit(__doc__)
     program, first = os.path.abspath(sys.argv[1]), None
     with tempfile.TemporaryDirectory() as folder:
+        if shutil.which('rustc'):
+            beside_plain(program, folder)
         path, script = os.path.join(folder, 'capture'), os.path.join(folder, 'script')
         for name, text, count in cases(path):
             words = words_of(program, path, script, text)
