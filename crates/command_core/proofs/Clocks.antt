@@ -2,8 +2,7 @@
 use Rattle.std.proofs.Common.{◌≡◌, ℕ, ◌-◌, List, [], ◌∷◌, ◌++◌, Option, Some, sym, ap, ◌∙◌, arith}
 use Rattle.std.specs.Prelude.{max, unwrap_or}
 use Rattle.pcap_file.specs.Capture.{Record}
-use Rattle.std.proofs.lemmas.List.{append_assoc, append-nil}
-use Rattle.timeline.specs.Times.{Timed, at_times, at_times_after, timed_after, greatest_since, time_after}
+use Rattle.timeline.specs.Times.{greatest_since, time_after}
 use Rattle.command_core.specs.declared.clock.RecordClock.{RecordClock}
 use Rattle.command_core.specs.Clock.{HasPassed}
 

@@ -1,9 +1,9 @@
 -- How far the lines of a capture have come.
-use Rattle.std.proofs.Common.{◌≡◌, ℕ, ◌+◌, ◌<◌, ◌≤◌, List, [], ◌∷◌, ◌++◌, Option, Some, None, Result, Ok, Err, IsTrue, length, take, drop, refl, sym, ap, subst, ◌∙◌, append_assoc, arith, inl, inr}
+use Rattle.std.proofs.Common.{◌≡◌, ◌≢◌, ℕ, ◌<◌, ◌≤◌, List, [], ◌∷◌, ◌++◌, Option, Some, None, Result, Ok, Err, IsTrue, length, take, drop, refl, sym, ap, subst, ◌∙◌, append_assoc, arith, inl, inr}
 use Rattle.std.proofs.lemmas.Bool.{cases_lt}
-use Rattle.std.proofs.lemmas.List.{append-nil, length-append, length_push, take_at, take_all, take-take, take-append-le, take-append-drop}
+use Rattle.std.proofs.lemmas.List.{append-nil, length-append, length_push, take_all, take-append-le, take-append-drop}
 use Rattle.rtp_io.specs.Outside.{Disk, SameDisk, Adds, AddsFront}
-use Rattle.rtp_io.specs.Laws.{same_then, told_then, adds_none, adds_then, adds_same, front_of, front_then}
+use Rattle.rtp_io.specs.Laws.{same_then, told_then, adds_none, adds_then, adds_same, front_of}
 use Rattle.rtp_io.specs.declared.pull.TheConstants.{PULL_BYTES}
 use Rattle.pcap_file.specs.Capture.{Record}
 use Rattle.capture_file.specs.declared.fault.FileFault.{FileFault}
@@ -23,6 +23,11 @@ use Rattle.command_core.specs.Steps.{Writes, HasWriteCause, HasStopCause, Covers
 use Rattle.command_core.specs.Stops.{stop_of_fault}
 use Rattle.command_core.specs.Takes.{Takes, Finishes}
 use Rattle.command_core.specs.Laws.{front_more}
+
+-- what is none of the values is none
+pub none_of : {A : Type 0} (found : Option A) → ((x : A) → found ≢ Some x) → found ≡ None
+none_of None other = refl
+none_of (Some x) other = absurd (other x refl)
 
 -- Took is what else stands for the records that were seen.
 pub record Progress (output : Output) (Took : List Record → Type 0) (start : Disk) (place : CaptureFile) (held : List ℕ) (now : Disk) (old new : Option (List ℕ)) : Type 0 where

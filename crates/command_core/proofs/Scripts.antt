@@ -1,17 +1,8 @@
 -- What is known of scripts: the front of one that is too long tells as much as the whole.
-use Rattle.std.proofs.Common.{◌≡◌, ◌≢◌, ℕ, zero, suc, ◌+◌, ◌*◌, ◌≤◌, ◌<◌, Bool, true, false, List, [], ◌∷◌, ◌++◌, length, take, drop, Option, Some, None, Result, Ok, Err, IsTrue, refl, sym, ap, subst, ◌∙◌, arith, inl, inr}
-use Rattle.std.specs.Prelude.{nat_lt, nat_eq, ◌==◌, ◌||◌, if◌then◌else◌}
-use Rattle.std.specs.List.{starts_with}
+use Rattle.std.proofs.Common.{◌≡◌, ℕ, ◌+◌, ◌<◌, List, length, take, Result, Ok, Err, IsTrue, refl, sym, ap, ◌∙◌, arith, inl, inr}
 use Rattle.std.proofs.lemmas.Bool.{lt-ltb, cases_lt}
-use Rattle.std.proofs.lemmas.Grind.{common_steps}
-use Rattle.std.proofs.lemmas.List.{append-nil, length-append, length-take-le, length-take}
-use Rattle.rtp_io.specs.Outside.{AreBytes, Disk}
-use Rattle.rtp_io.specs.Pulled.{FillsFrom}
-use Rattle.pcap_file.specs.declared.fault.CaptureFault.TheVariants.{CutHeader, Pcapng}
-use Rattle.pcap_file.specs.declared.order.Order.{Order}
-use Rattle.pcap_file.specs.declared.order.Order.TheVariants.{Little, Big}
-use Rattle.pcap_file.specs.Numbers.{number_at}
-use Rattle.pcap_file.specs.Capture.{capture_of, format_of, format_in, order_of, behind_header, empty}
+use Rattle.std.proofs.lemmas.List.{length-take-le, take_all}
+use Rattle.rtp_io.specs.Outside.{Disk}
 use Rattle.script_lang.specs.declared.fault.ScriptCause.TheVariants.{Size}
 use Rattle.script_lang.specs.declared.fault.ScriptFault.{ScriptFault}
 use Rattle.script_lang.specs.declared.fault.ScriptFault.TheVariants.{Bad, OutOfMemory}
@@ -27,14 +18,14 @@ script_big : (text : List ℕ) → 1048576 < length text → read_script text �
 unfolding read_script
 script_big text big = rw (lt-ltb 1048576 (length text) big) refl
 
-pub script_front : (contents buf : List ℕ) (n : ℕ) (a b : Disk) → a.left ≡ contents → FillsFrom n buf a b → 1048576 < length buf → n ≤ length buf → read_script contents ≡ read_script (take n buf)
-script_front contents buf n a b left fills size bound =
-    elim (cases_lt n (length buf)) [
-      | inl short ↦ ap read_script (sym left ∙ fills.front ∙ ap (λ (l : List ℕ). take n buf ++ l) (fills.all short) ∙ append-nil (take n buf))
-      | inr full ↦
-          let len : length (take n buf) ≡ n = length-take-le n buf bound in
-          script_big contents (omega (arith, ap length (sym left ∙ fills.front), length-append (take n buf) b.left)) ∙ sym (script_big (take n buf) (omega arith))
-    ]
+pub front_tells : (text : List ℕ) → read_script text ≡ read_script (take (1048576 + 1) text)
+front_tells text = elim (cases_lt 1048576 (length text)) [
+  | inl long ↦
+      let size : length (take (1048576 + 1) text) ≡ 1048576 + 1 =
+      length-take-le (1048576 + 1) text (omega arith) in
+      script_big text long ∙ sym (script_big (take (1048576 + 1) text) (omega (arith, size)))
+  | inr short ↦ ap read_script (sym (take_all (1048576 + 1) text (omega arith)))
+]
 
 -- ---- a script that was read
 

@@ -2,6 +2,8 @@ pub mod Output
 pub mod Taken
 pub mod Clock
 pub mod Stops
+pub mod Reports
+pub mod Inputs
 pub mod Steps
 pub mod Takes
 pub mod Laws

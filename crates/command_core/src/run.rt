@@ -6,10 +6,9 @@ ghost use Rattle.command_core.specs.Steps.{Covers, HasStopCause};
 
 use crate::clock::{START, pass};
 use crate::command::Command;
-use crate::stop::{Stop, stop_of};
+use crate::stop::Stop;
 use capture_file::CaptureFile;
 use rtp_io::{Files, Pull, Sink};
-use rtp_units::OutOfMemory;
 use std::alloc::Global;
 
 /// Gives a command that took no record yet the records of the capture in the open file, and the
@@ -35,26 +34,12 @@ pub fn run_command<F: Files, O: Sink, C: Command>(
     ensures cause { HasStopCause result (F.faults files.old) (F.faults files.new)
         (O.faults out.old) (O.faults out.new) }
 {
-    let mut pull = match Pull::new(alloc) {
-        Ok(pull) => pull,
-        Err(OutOfMemory) => return Err(Stop::Memory),
-    };
-    let mut file = match CaptureFile::open(alloc, files, &mut pull) {
-        Ok(file) => file,
-        Err(fault) => return Err(stop_of(fault)),
-    };
+    let mut pull = Pull::new(alloc)?;
+    let mut file = CaptureFile::open(alloc, files, &mut pull)?;
     let mut clock = START;
-    'records: loop {
-        match file.next(alloc, files, &mut pull) {
-            Ok(Some(entry)) => {
-                clock = pass(clock, entry.rec.stamp);
-                match command.take(alloc, clock.time, entry.link, &entry.rec, out) {
-                    Ok(()) => {}
-                    Err(stop) => return Err(stop),
-                }
-            }
-            Ok(None) => return command.finish(alloc, out),
-            Err(fault) => return Err(stop_of(fault)),
-        }
+    'records: while let Some(entry) = file.next(alloc, files, &mut pull)? {
+        clock = pass(clock, entry.rec.stamp);
+        command.take(alloc, clock.time, entry.link, &entry.rec, out)?;
     }
+    command.finish(alloc, out)
 }

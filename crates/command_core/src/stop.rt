@@ -5,7 +5,9 @@ ghost use Rattle.command_core.specs.Stops.{stop_of_fault, stop_of_script};
 
 use crate::status::Status;
 use capture_file::FileFault;
+use rtp_units::OutOfMemory;
 use script_lang::{ScriptCause, ScriptFault};
+use std::alloc::AllocError;
 use std::fmt;
 
 #[derive(Clone, Copy, Debug, PartialEq, Eq)]
@@ -25,24 +27,46 @@ pub enum Stop {
     Memory,
 }
 
-/// What a fault of the script ends a run with.
-pub fn of_script(fault: ScriptFault) -> Stop
-    ensures { result ≡ stop_of_script fault }
-{
-    match fault {
-        ScriptFault::Bad { line, cause } => Stop::Script { line, cause },
-        ScriptFault::OutOfMemory => Stop::Memory,
+impl From<OutOfMemory> for Stop {
+    ghost use Rattle.command_core.specs.declared.stop.Stop.TheVariants as stop;
+
+    ghost from_gives = { λ _ e. e ≡ stop.Memory };
+
+    fn from(_: OutOfMemory) -> Self {
+        Stop::Memory
     }
 }
 
-/// What a fault of the capture ends a run with.
-pub fn stop_of(fault: FileFault) -> Stop
-    ensures { result ≡ stop_of_fault fault }
-{
-    match fault {
-        FileFault::ReadFault => Stop::Read,
-        FileFault::OutOfMemory => Stop::Memory,
-        fault => Stop::Capture(fault),
+impl From<AllocError> for Stop {
+    ghost use Rattle.command_core.specs.declared.stop.Stop.TheVariants as stop;
+
+    ghost from_gives = { λ _ e. e ≡ stop.Memory };
+
+    fn from(_: AllocError) -> Self {
+        Stop::Memory
+    }
+}
+
+impl From<ScriptFault> for Stop {
+    ghost from_gives = { λ fault e. e ≡ stop_of_script fault };
+
+    fn from(fault: ScriptFault) -> Self {
+        match fault {
+            ScriptFault::Bad { line, cause } => Stop::Script { line, cause },
+            ScriptFault::OutOfMemory => Stop::Memory,
+        }
+    }
+}
+
+impl From<FileFault> for Stop {
+    ghost from_gives = { λ fault e. e ≡ stop_of_fault fault };
+
+    fn from(fault: FileFault) -> Self {
+        match fault {
+            FileFault::ReadFault => Stop::Read,
+            FileFault::OutOfMemory => Stop::Memory,
+            fault => Stop::Capture(fault),
+        }
     }
 }
 

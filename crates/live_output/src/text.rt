@@ -16,8 +16,7 @@ use live_bin::{Entry, LaneHistory, Plan, PlanLane};
 use live_text::entry as entry_piece;
 use log_text::line as line_piece;
 use rtp_io::Sink;
-use rtp_units::OutOfMemory;
-use std::alloc::{AllocError, Global};
+use std::alloc::Global;
 use std::fmt;
 use timeline::BinLine;
 
@@ -38,10 +37,7 @@ pub fn print_live<O: Sink>(
     ensures { Prints (live_text hex plan.now histories.now) result
         (O.written out.old) (O.written out.new) (O.faults out.old) (O.faults out.new) }
 {
-    match print_histories(alloc, hex, plan, histories, out) {
-        Ok(()) => {}
-        Err(stop) => return Err(stop),
-    }
+    print_histories(alloc, hex, plan, histories, out)?;
     print_ending(alloc, plan, histories, out)
 }
 
@@ -59,10 +55,7 @@ fn print_histories<O: Sink>(
         (O.written out.old) (O.written out.new) (O.faults out.old) (O.faults out.new) }
 {
     for number in 0..histories.len() {
-        match print_history(alloc, hex, plan, number as u8, &histories[number], out) {
-            Ok(()) => {}
-            Err(stop) => return Err(stop),
-        }
+        print_history(alloc, hex, plan, number as u8, &histories[number], out)?;
     }
     Ok(())
 }
@@ -80,10 +73,7 @@ fn print_history<O: Sink>(
     ensures { Prints (history_text hex plan.now lane history.now) result
         (O.written out.old) (O.written out.new) (O.faults out.old) (O.faults out.new) }
 {
-    match print_header(alloc, lane, plan.lane(lane), out) {
-        Ok(()) => {}
-        Err(stop) => return Err(stop),
-    }
+    print_header(alloc, lane, plan.lane(lane), out)?;
     print_entries(alloc, hex, history.entries(), out)
 }
 
@@ -97,10 +87,8 @@ fn print_header<O: Sink>(alloc: Global, lane: u8, of: &PlanLane, out: &mut O) ->
         session: of.session,
         ssrc: of.ssrc,
     };
-    match format!(in alloc; "{words}\n") {
-        Ok(text) => print_piece(out, text.as_bytes()),
-        Err(AllocError) => Err(Stop::Memory),
-    }
+    let text = format!(in alloc; "{words}\n")?;
+    print_piece(out, text.as_bytes())
 }
 
 // A lane's number, its session and its SSRC.
@@ -133,10 +121,7 @@ fn print_entries<O: Sink>(
         (O.written out.old) (O.written out.new) (O.faults out.old) (O.faults out.new) }
 {
     for index in 0..entries.len() {
-        match print_entry(alloc, hex, index as u64, &entries[index], out) {
-            Ok(()) => {}
-            Err(stop) => return Err(stop),
-        }
+        print_entry(alloc, hex, index as u64, &entries[index], out)?;
     }
     Ok(())
 }
@@ -152,10 +137,8 @@ fn print_entry<O: Sink>(
     ensures { Prints (entry_text hex index entry.now) result
         (O.written out.old) (O.written out.new) (O.faults out.old) (O.faults out.new) }
 {
-    match entry_piece(alloc, index, entry, hex) {
-        Ok(piece) => print_piece(out, piece.bytes()),
-        Err(OutOfMemory) => Err(Stop::Memory),
-    }
+    let piece = entry_piece(alloc, index, entry, hex)?;
+    print_piece(out, piece.bytes())
 }
 
 // Writes what stands behind the histories.
@@ -171,14 +154,8 @@ fn print_ending<O: Sink>(
     ensures { Prints (ending_text plan.now histories.now) result
         (O.written out.old) (O.written out.new) (O.faults out.old) (O.faults out.new) }
 {
-    let clocks = match clocks(alloc, plan, histories) {
-        Ok(clocks) => clocks,
-        Err(OutOfMemory) => return Err(Stop::Memory),
-    };
-    match print_offsets(alloc, clocks.as_slice(), out) {
-        Ok(()) => {}
-        Err(stop) => return Err(stop),
-    }
+    let clocks = clocks(alloc, plan, histories)?;
+    print_offsets(alloc, clocks.as_slice(), out)?;
     print_done(alloc, plan, histories, out)
 }
 
@@ -188,10 +165,7 @@ fn print_offsets<O: Sink>(alloc: Global, clocks: &[LaneClock], out: &mut O) -> R
         (O.written out.old) (O.written out.new) (O.faults out.old) (O.faults out.new) }
 {
     for clock in clocks {
-        match print_offset(alloc, clocks, clock, out) {
-            Ok(()) => {}
-            Err(stop) => return Err(stop),
-        }
+        print_offset(alloc, clocks, clock, out)?;
     }
     Ok(())
 }
@@ -210,10 +184,8 @@ fn print_offset<O: Sink>(
         lane: clock.lane,
         ns: offset(clocks, clock),
     };
-    match format!(in alloc; "{words}\n") {
-        Ok(text) => print_piece(out, text.as_bytes()),
-        Err(AllocError) => Err(Stop::Memory),
-    }
+    let text = format!(in alloc; "{words}\n")?;
+    print_piece(out, text.as_bytes())
 }
 
 // A lane's number and its offset.
@@ -253,8 +225,6 @@ fn print_done<O: Sink>(
         lost: totals.lost,
         refused: totals.refused,
     };
-    match line_piece(alloc, &done, false) {
-        Ok(piece) => print_piece(out, piece.bytes()),
-        Err(OutOfMemory) => Err(Stop::Memory),
-    }
+    let piece = line_piece(alloc, &done, false)?;
+    print_piece(out, piece.bytes())
 }

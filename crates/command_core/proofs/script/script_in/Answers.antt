@@ -1,5 +1,8 @@
+use Rattle.std.proofs.lemmas.Result.{err_from_is_err_and}
 use Rattle.command_core.proofs.Scripts.{reads_text}
 use Rattle.command_core.proofs.script.script_in.Goals as goal
 
-pub returns-in-Err : goal.returns-in-Err
-returns-in-Err c = rw c.of_script.ensures (reads_text c.in-Err.fault c.args.text.now c.in-Err.ensures)
+pub returns-in_err-read : goal.returns-in_err-read
+returns-in_err-read c =
+    let p = err_from_is_err_and c.from_residual.result c.from_residual.ensures.1 in
+    rw (p.1, p.2) (reads_text c.in_err-read.field-0.0 c.args.text.now c.in_err-read.ensures)
