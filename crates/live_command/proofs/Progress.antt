@@ -1,5 +1,5 @@
 -- How far a capture was read into a plan.
-use Rattle.std.proofs.Common.{◌≡◌, ◌<◌, ℕ, List, [], ◌∷◌, ◌++◌, Option, Some, None, Result, Ok, Err}
+use Rattle.std.proofs.Common.{◌≡◌, ◌≢◌, ◌<◌, ℕ, List, [], ◌∷◌, ◌++◌, Option, Some, None, Result, Ok, Err}
 use Rattle.std.proofs.Common.{IsTrue, refl, sym, ap, subst, ◌∙◌, append_assoc}
 use Rattle.rtp_io.specs.Outside.{Disk, SameDisk}
 use Rattle.rtp_io.specs.Laws.{same_then, told_then}
@@ -25,6 +25,11 @@ use Rattle.live_command.specs.Loaded.{HasLoaded, Loads, Finishes, ReadsPlan}
 use Rattle.live_command.specs.Refusals.{refusal, capture_stop}
 use Rattle.live_command.specs.Stops.{HasLiveCause}
 use Rattle.live_command.proofs.Refusing.{stopped_at, stopped_by_fault}
+
+-- what is none of the values is none
+pub none_of : {A : Type 0} (found : Option A) → ((x : A) → found ≢ Some x) → found ≡ None
+none_of None other = refl
+none_of (Some x) other = absurd (other x refl)
 
 pub record Progress (c : Contents) (start : Disk) (place : CaptureFile) (held : List ℕ)
     (now : Disk) (load : Load) : Type 0 where

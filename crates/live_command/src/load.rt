@@ -4,7 +4,6 @@ ghost use Rattle.pcap_file.specs.Capture.{Record};
 
 use crate::stop::LiveStop;
 use capture_file::CaptureRecord;
-use command_core::Stop;
 use live_bin::{Course, Plan};
 use live_plan::PlanBuilder;
 use rtp_units::OutOfMemory;
@@ -52,14 +51,8 @@ impl Load {
         ensures count { OnOk result (count_of self.new ≡ count_of self.old + 1) }
         ensures room { OnOk result (self.new.included ≤ MAX_BYTES) }
     {
-        match self.admit(record) {
-            Ok(()) => {}
-            Err(stop) => return Err(stop),
-        }
-        match self.builder.take(alloc, record.link, &record.rec) {
-            Ok(()) => Ok(()),
-            Err(OutOfMemory) => Err(LiveStop::Common(Stop::Memory)),
-        }
+        self.admit(record)?;
+        Ok(self.builder.take(alloc, record.link, &record.rec)?)
     }
 
     // Counts a record's bytes and notes the first link type, unless there is something against it.

@@ -1,8 +1,11 @@
 //! Why a run of `live` stops, with its text.
 ghost use Rattle.std.specs.Prelude.{◌≡◌, Some};
 ghost use Rattle.live_command.specs.Stops.{status_of_stop, text_of};
+ghost use Rattle.live_command.specs.declared.stop.LiveStop.TheVariants.{Common};
 
+use capture_file::FileFault;
 use command_core::{Status, Stop};
+use rtp_units::OutOfMemory;
 use std::fmt;
 
 #[derive(Clone, Copy, Debug, PartialEq, Eq)]
@@ -23,6 +26,34 @@ impl LiveStop {
             LiveStop::Common(why) => why.status(),
             LiveStop::TooMany { .. } | LiveStop::MixedLinks { .. } => Status::Capture,
         }
+    }
+}
+
+impl From<Stop> for LiveStop {
+    ghost from_gives = { λ why e. e ≡ Common why };
+
+    fn from(why: Stop) -> Self {
+        LiveStop::Common(why)
+    }
+}
+
+impl From<OutOfMemory> for LiveStop {
+    ghost use Rattle.command_core.specs.declared.stop.Stop.TheVariants as stop;
+
+    ghost from_gives = { λ _ e. e ≡ Common stop.Memory };
+
+    fn from(fault: OutOfMemory) -> Self {
+        LiveStop::Common(Stop::from(fault))
+    }
+}
+
+impl From<FileFault> for LiveStop {
+    ghost use Rattle.command_core.specs.Stops.{stop_of_fault};
+
+    ghost from_gives = { λ fault e. e ≡ Common (stop_of_fault fault) };
+
+    fn from(fault: FileFault) -> Self {
+        LiveStop::Common(Stop::from(fault))
     }
 }
 

@@ -1,6 +1,6 @@
 -- How a run ends with its report.
 use Rattle.std.proofs.Common.{◌≡◌, ℕ, ◌<◌, List, [], Option, Some, Err, sym, ap, subst, inl, inr}
-use Rattle.std.proofs.Common.{◌⊎◌, arith}
+use Rattle.std.proofs.Common.{◌⊎◌, ◌≢◌, refl, arith}
 use Rattle.std.proofs.lemmas.List.{append-nil}
 use Rattle.rtp_io.specs.Outside.{Adds, AddsFront}
 use Rattle.rtp_io.specs.Laws.{front_of, adds_same}
@@ -8,12 +8,22 @@ use Rattle.command_core.specs.declared.status.Status.{Status}
 use Rattle.command_core.specs.declared.status.Status.TheVariants as status
 use Rattle.command_core.specs.declared.stop.Stop.{Stop}
 use Rattle.command_core.specs.declared.stop.Stop.TheVariants as stop
-use Rattle.command_core.specs.Stops.{memory_text}
+use Rattle.command_core.specs.Stops.{memory_text, text_of}
 use Rattle.command_core.specs.Steps.{HasStopCause}
 use Rattle.rtpscan_cli.specs.Words.{Form}
 use Rattle.rtpscan_cli.specs.Outcome.{Wanted, out_of, stop_of, told_text, err_from, err_of, HasOut}
 use Rattle.rtpscan_cli.specs.Outcome.{MayStop, MustStop, HasCutErr, HasErr, HasSomeErr}
-use Rattle.rtpscan_cli.specs.Steps.{IsUsage, Runs, Told, Reports}
+use Rattle.command_core.specs.Reports.{Told}
+use Rattle.rtpscan_cli.specs.Steps.{IsUsage, Runs, ReportsStop}
+
+-- but for the usage text those are the texts of the commands
+pub commands_text : (why : Stop) → why ≢ stop.Usage → told_text why ≡ text_of why
+commands_text stop.Usage other = absurd (other refl)
+commands_text (stop.Script line cause) other = refl
+commands_text stop.Read other = refl
+commands_text (stop.Capture fault) other = refl
+commands_text stop.Write other = refl
+commands_text stop.Memory other = refl
 
 all_front : (p : List ℕ) (a b : Option (List ℕ)) → Adds p a b → AddsFront p a b
 all_front p a b adds =
@@ -38,7 +48,7 @@ report_is P result wish text w w' e e' (inr h) a b c d =
     told_is P result status.Memory memory_text w w' e e' h c d
 
 pub out_ends : (why : Stop) (result : Status) (want : Wanted) (x x' w w' : Option (List ℕ))
-    (e e' : ℕ) → Runs (Err why) want x x' → Reports result why w w' e e' → HasOut result want x x'
+    (e e' : ℕ) → Runs (Err why) want x x' → ReportsStop result why w w' e e' → HasOut result want x x'
 out_ends stop.Write result want x x' w w' e e' h r =
     subst (λ (s : Status). HasOut s want x x') (sym r.0) h
 out_ends stop.Usage result want x x' w w' e e' h r = let f : AddsFront (out_of want) x x' =
@@ -77,7 +87,7 @@ called_text want why w w' is adds =
 pub err_ends : (why : Stop) (result : Status) (want : Wanted) (f f' o o' e e' : ℕ)
     (x x' w w' : Option (List ℕ))
     → Runs (Err why) want x x' → HasStopCause {A = Unit {0}} (Err why) f f' o o'
-    → Reports result why w w' e e' → HasErr result want f f' o o' w w'
+    → ReportsStop result why w w' e e' → HasErr result want f f' o o' w w'
 err_ends stop.Write result want f f' o o' e e' x x' w w' h cause r =
     subst (λ (s : Status). HasErr s want f f' o o' w w') (sym r.0) (inl (cause.1, r.1))
 err_ends stop.Usage result want f f' o o' e e' x x' w w' h cause r =
@@ -112,7 +122,7 @@ err_ends stop.Memory result want f f' o o' e e' x x' w w' h cause r =
 pub text_ends : (why : Stop) (result : Status) (form : Option Form) (f f' o o' e e' : ℕ)
     (w w' : Option (List ℕ))
     → IsUsage (Err why) form → HasStopCause {A = Unit {0}} (Err why) f f' o o'
-    → Reports result why w w' e e' → HasSomeErr result form f f' o o' w w'
+    → ReportsStop result why w w' e e' → HasSomeErr result form f f' o o' w w'
 text_ends stop.Write result form f f' o o' e e' w w' usage cause r =
     subst (λ (s : Status). HasSomeErr s form f f' o o' w w') (sym r.0) (inl (cause.1, r.1))
 text_ends stop.Usage result form f f' o o' e e' w w' usage cause r =

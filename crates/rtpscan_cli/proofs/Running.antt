@@ -13,7 +13,7 @@ use Rattle.command_core.specs.Steps.{Covers, HasStopCause}
 use Rattle.rtpscan_cli.specs.Words.{Form}
 use Rattle.rtpscan_cli.specs.Scanned.{scan_output}
 use Rattle.rtpscan_cli.specs.Outcome.{Wanted, Written, wanted, out_of, stop_of, stop_from}
-use Rattle.rtpscan_cli.specs.Steps.{IsUsage, Runs, Reports}
+use Rattle.rtpscan_cli.specs.Steps.{IsUsage, Runs, ReportsStop}
 
 pub covers_no_usage : (output : Output) (r : Result (Unit {0}) Stop) (form : Option Form) (f : Form)
     (before after : Disk) (old new : Option (List ℕ)) → Some f ≡ form
@@ -64,7 +64,7 @@ capture_runs f form result before start after old new e told same opened covers 
 
 -- where a run stopped and its status isn't Write, no write of the output failed
 pub taken : (s : Stop) (r : Status) (old new : Option (List ℕ)) (e e' f f' o o' : ℕ)
-    → HasStopCause {A = Unit {0}} (Err s) f f' o o' → Reports r s old new e e' → r ≢ status.Write
+    → HasStopCause {A = Unit {0}} (Err s) f f' o o' → ReportsStop r s old new e e' → r ≢ status.Write
     → o' ≡ o
 taken stop.Usage r old new e e' f f' o o' cause told other = cause.1
 taken (stop.Script line why) r old new e e' f f' o o' cause told other = cause.1

@@ -1,12 +1,12 @@
 -- What the steps of a run promise each other.
-use Rattle.std.specs.Prelude.{◌≡◌, ◌≢◌, ◌<◌, ◌⊎◌, ℕ, List, []}
+use Rattle.std.specs.Prelude.{◌≡◌, ◌≢◌, ℕ, List, []}
 use Rattle.std.specs.Prelude.{Option, Some, None, Result, Ok, Err}
 use Rattle.rtp_io.specs.Outside.{Adds, AddsFront}
 use Rattle.command_core.specs.declared.status.Status.{Status}
-use Rattle.command_core.specs.declared.status.Status.TheVariants as status
 use Rattle.command_core.specs.declared.stop.Stop.{Stop}
 use Rattle.command_core.specs.declared.stop.Stop.TheVariants as stop
-use Rattle.command_core.specs.Stops.{memory_text, status_of_stop}
+use Rattle.command_core.specs.Stops.{status_of_stop}
+use Rattle.command_core.specs.Reports.{Reports}
 use Rattle.rtpscan_cli.specs.Words.{Form}
 use Rattle.rtpscan_cli.specs.Outcome.{Wanted, out_of, stop_of, told_text}
 
@@ -24,15 +24,7 @@ abbrev pub IsUsage : Result (Unit {0}) Stop → Option Form → Type 0
 IsUsage (Err stop.Usage) form = form ≡ None
 IsUsage result form = form ≢ None
 
--- writing a text for a status
-abbrev pub Told : Status → Status → List ℕ → Option (List ℕ) → Option (List ℕ) → ℕ → ℕ → Type 0
-Told result wish text old new e e' =
-    ((result ≡ wish) × Adds text old new × (e' ≡ e))
-    ⊎ ((result ≡ status.Write) × AddsFront text old new × (e < e'))
-
 -- reporting why a run stopped
-abbrev pub Reports : Status → Stop → Option (List ℕ) → Option (List ℕ) → ℕ → ℕ → Type 0
-Reports result stop.Write old new e e' = (result ≡ status.Write) × Adds [] old new × (e' ≡ e)
-Reports result why old new e e' =
-    Told result (status_of_stop why) (told_text why) old new e e'
-    ⊎ Told result status.Memory memory_text old new e e'
+abbrev pub ReportsStop : Status → Stop → Option (List ℕ) → Option (List ℕ) → ℕ → ℕ → Type 0
+ReportsStop result why old new e e' =
+    Reports result (status_of_stop why) (told_text why) old new e e'

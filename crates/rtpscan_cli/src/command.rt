@@ -10,7 +10,6 @@ use command_core::{Command, Stop, print_piece, run_command};
 use pcap_file::PcapRecord;
 use rtp_io::{Files, Sink};
 use rtp_scan::{Scan, report_of, sight_of};
-use rtp_units::OutOfMemory;
 use std::alloc::Global;
 
 /// Scans the capture in the open file. All that goes out is one piece.
@@ -30,10 +29,7 @@ pub fn scan_open<F: Files, O: Sink>(
     ensures cause { HasStopCause result (F.faults files.old) (F.faults files.new)
         (O.faults out.old) (O.faults out.new) }
 {
-    let scan = match Scan::new(alloc) {
-        Ok(scan) => scan,
-        Err(OutOfMemory) => return Err(Stop::Memory),
-    };
+    let scan = Scan::new(alloc)?;
     let mut command = ScanCommand {
         scan,
         script_only,
@@ -71,23 +67,15 @@ impl Command for ScanCommand {
         rec: &PcapRecord,
         _out: &mut O,
     ) -> Result<(), Stop> {
-        let sight = match sight_of(alloc, time, link, rec) {
-            Ok(sight) => sight,
-            Err(OutOfMemory) => return Err(Stop::Memory),
-        };
-        match self.scan.note(sight) {
-            Ok(()) => {}
-            Err(OutOfMemory) => return Err(Stop::Memory),
-        }
+        let sight = sight_of(alloc, time, link, rec)?;
+        self.scan.note(sight)?;
         self.records += 1;
         self.time = time;
         Ok(())
     }
 
     fn finish<O: Sink>(&mut self, alloc: Global, out: &mut O) -> Result<(), Stop> {
-        match report_of(alloc, &self.scan, self.script_only) {
-            Ok(text) => print_piece(out, text.bytes()),
-            Err(OutOfMemory) => Err(Stop::Memory),
-        }
+        let text = report_of(alloc, &self.scan, self.script_only)?;
+        print_piece(out, text.bytes())
     }
 }

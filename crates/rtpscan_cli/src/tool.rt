@@ -6,13 +6,13 @@ ghost use Rattle.rtpscan_cli.specs.Words.{form_of, texts};
 ghost use Rattle.rtpscan_cli.specs.Outcome.{HasErr, HasOut, HasSomeErr, HasStatusCause};
 ghost use Rattle.rtpscan_cli.specs.Outcome.{IsAnswer, IsUsageOr, Knows, MayOpen};
 ghost use Rattle.rtpscan_cli.specs.Outcome.{status_of, stop_of, wanted};
-ghost use Rattle.rtpscan_cli.specs.Steps.{IsUsage, Reports, Runs, Told};
+ghost use Rattle.rtpscan_cli.specs.Steps.{IsUsage, ReportsStop, Runs};
 
 use crate::command::scan_open;
 use crate::words::asked_by;
-use command_core::{Status, Stop};
-use rtp_io::{Failed, Files, Sink, write_piece};
-use std::alloc::{AllocError, Global};
+use command_core::{Status, Stop, report, tell};
+use rtp_io::{Failed, Files, Sink};
+use std::alloc::Global;
 
 const USAGE: &[u8] = b"rtpscan: usage: [-s] CAPTURE\n";
 
@@ -75,34 +75,19 @@ pub fn run_scan<F: Files, O: Sink, E: Sink>(
 {
     match run(alloc, words, files, out) {
         Ok(()) => Status::Done,
-        Err(stop) => report(alloc, stop, err),
+        Err(stop) => report_stop(alloc, stop, err),
     }
 }
 
 // Writes the text of a stop, and answers the status.
-fn report<E: Sink>(alloc: Global, stop: Stop, err: &mut E) -> Status
+fn report_stop<E: Sink>(alloc: Global, stop: Stop, err: &mut E) -> Status
     requires { E.faults err.old < 2 ^ 64 - 1 }
-    ensures { Reports result stop (E.written err.old) (E.written err.new)
+    ensures { ReportsStop result stop (E.written err.old) (E.written err.new)
         (E.faults err.old) (E.faults err.new) }
 {
     match stop {
-        Stop::Write => Status::Write,
         Stop::Usage => tell(Status::Usage, USAGE, err),
-        stop => match stop.to_string(alloc) {
-            Ok(text) => tell(stop.status(), text.as_bytes(), err),
-            Err(AllocError) => tell(Status::Memory, b"rtpbin: out of memory\n", err),
-        },
-    }
-}
-
-fn tell<E: Sink>(status: Status, text: &[u8], err: &mut E) -> Status
-    requires { E.faults err.old < 2 ^ 64 - 1 }
-    ensures { Told result status text.now (E.written err.old) (E.written err.new)
-        (E.faults err.old) (E.faults err.new) }
-{
-    match write_piece(err, text) {
-        Ok(()) => status,
-        Err(Failed) => Status::Write,
+        stop => report(alloc, stop.status(), &stop, err),
     }
 }
 

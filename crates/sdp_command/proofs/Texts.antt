@@ -3,6 +3,7 @@ use Rattle.std.proofs.Common.{◌≡◌, ℕ, List, Result, Ok, Err, IsTrue, ref
 use Rattle.script_lang.specs.Contents.{Contents}
 use Rattle.command_core.specs.declared.stop.Stop.{Stop}
 use Rattle.command_core.specs.declared.stop.Stop.TheVariants as stop
+use Rattle.command_core.specs.Inputs.{ReadsInput}
 use Rattle.sdp_profile.specs.declared.fault.SdpFault.{SdpFault}
 use Rattle.sdp_profile.specs.declared.fault.SdpFault.TheVariants as fault
 use Rattle.sdp_profile.specs.Reading.{Gives}
@@ -11,7 +12,7 @@ use Rattle.rtp_io.specs.Outside.{Disk}
 use Rattle.sdp_command.specs.declared.failure.Failure.{Failure}
 use Rattle.sdp_command.specs.declared.failure.Failure.TheVariants.{Stopped, Description}
 use Rattle.sdp_command.specs.Failures.{failure_of_fault, HasFailureCause}
-use Rattle.sdp_command.specs.Reading.{ReadsFile, ReadsDescribed, Tells}
+use Rattle.sdp_command.specs.Reading.{ReadsDescribed, Tells}
 
 pub tells_fault : (why : SdpFault) (sdp times : List ℕ)
     → Gives {A = Contents} (Err why) (described_script sdp times)
@@ -50,7 +51,7 @@ reads_described (Err (Stopped (stop.Capture why))) sdp times s t before after sa
 
 -- the description could not be read
 pub sdp_fails : (why : Stop) (sdp times : List ℕ) (most : ℕ) (before after : Disk)
-    → ReadsFile (Err why) sdp most before after
+    → ReadsInput (Err why) sdp most before after
     → ReadsDescribed (Err (Stopped why)) sdp times before after
 sdp_fails stop.Read sdp times most before after fails = λ told. elim (fails told) [
   | inl closed ↦ inl closed
@@ -64,7 +65,7 @@ sdp_fails (stop.Capture fault) sdp times most before after fails = absurd fails
 
 -- the other text could not be read, behind the description
 pub times_fails : (why : Stop) (sdp times : List ℕ) (most : ℕ) (before mid after : Disk)
-    → (IsTrue before.told → IsTrue mid.told) → ReadsFile (Err why) times most mid after
+    → (IsTrue before.told → IsTrue mid.told) → ReadsInput (Err why) times most mid after
     → ReadsDescribed (Err (Stopped why)) sdp times before after
 times_fails stop.Read sdp times most before mid after told' fails = λ told.
     elim (fails (told' told)) [

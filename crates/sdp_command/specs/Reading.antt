@@ -1,28 +1,13 @@
 -- What reading the two texts answers.
-use Rattle.std.specs.Prelude.{◌≡◌, ◌⊎◌, ◌+◌, ℕ, IsTrue, List, take, Some, None}
-use Rattle.std.specs.Prelude.{Result, Ok, Err, Vec}
-use Rattle.std.specs.declared.alloc.Global.{Global}
-use Rattle.rtp_io.specs.Outside.{AreBytes, Disk}
+use Rattle.std.specs.Prelude.{◌≡◌, ◌⊎◌, ℕ, IsTrue, List, None, Result, Ok, Err}
+use Rattle.rtp_io.specs.Outside.{Disk}
 use Rattle.script_lang.specs.Contents.{Contents}
-use Rattle.command_core.specs.declared.stop.Stop.{Stop}
 use Rattle.command_core.specs.declared.stop.Stop.TheVariants as stop
+use Rattle.command_core.specs.Inputs.{IsBeingRead}
 use Rattle.sdp_profile.specs.declared.fault.SdpFault.TheVariants.{Bad, Times}
 use Rattle.sdp_profile.specs.Scripts.{described_script}
 use Rattle.sdp_command.specs.declared.failure.Failure.{Failure}
 use Rattle.sdp_command.specs.declared.failure.Failure.TheVariants.{Stopped, Description}
-
--- the file of this name is open, and numbers in it are bytes
-abbrev pub IsBeingRead : List ℕ → Disk → Type 0
-IsBeingRead name after = (after.opened ≡ Some name) × AreBytes (after.contents name)
-
--- reading a front of the file of this name, with one byte more than it may have
-abbrev pub ReadsFile : Result (Vec ℕ Global) Stop → List ℕ → ℕ → Disk → Disk → Type 0
-ReadsFile (Ok text) name most before after =
-    IsTrue before.told → text.items ≡ take (most + 1) (before.contents name)
-ReadsFile (Err stop.Read) name most before after =
-    IsTrue before.told → (after.opened ≡ None) ⊎ IsBeingRead name after
-ReadsFile (Err stop.Memory) name most before after = Unit {0}
-ReadsFile (Err other) name most before after = ⊥
 
 -- the script of these texts, or their fault
 abbrev pub Tells : Result Contents Failure → List ℕ → List ℕ → Type 0

@@ -20,21 +20,7 @@ pub enum Failure {
 pub fn stopped(run: Result<(), Stop>) -> Result<(), Failure>
     ensures { result ≡ as_failure run }
 {
-    match run {
-        Ok(()) => Ok(()),
-        Err(stop) => Err(Failure::Stopped(stop)),
-    }
-}
-
-/// What a fault of the two texts ends a run with.
-pub(crate) fn failure_of(fault: SdpFault) -> Failure
-    ensures { result ≡ failure_of_fault fault }
-{
-    match fault {
-        SdpFault::Bad { line, cause } => Failure::Description { line, cause },
-        SdpFault::Times { line, cause } => Failure::Stopped(Stop::Script { line, cause }),
-        SdpFault::OutOfMemory => Failure::Stopped(Stop::Memory),
-    }
+    Ok(run?)
 }
 
 impl Failure {
@@ -55,6 +41,18 @@ impl From<Stop> for Failure {
 
     fn from(stop: Stop) -> Self {
         Failure::Stopped(stop)
+    }
+}
+
+impl From<SdpFault> for Failure {
+    ghost from_gives = { λ fault e. e ≡ failure_of_fault fault };
+
+    fn from(fault: SdpFault) -> Self {
+        match fault {
+            SdpFault::Bad { line, cause } => Failure::Description { line, cause },
+            SdpFault::Times { line, cause } => Failure::Stopped(Stop::Script { line, cause }),
+            SdpFault::OutOfMemory => Failure::Stopped(Stop::Memory),
+        }
     }
 }
 

@@ -5,7 +5,7 @@ pub run_command-requires-clause-goes_on : goal.run_command-requires-clause-goes_
 run_command-requires-clause-goes_on g c = nothing_yet c.args.script_only
 
 pub run_command-requires-clause-ready : goal.run_command-requires-clause-ready
-run_command-requires-clause-ready g c = none_left c.in-Ok.scan c.in-Ok.ensures
+run_command-requires-clause-ready g c = none_left c.in_ok-scan.scan c.in_ok-scan.ensures
 
 pub run_command-requires-clause-stands : goal.run_command-requires-clause-stands
-run_command-requires-clause-stands g c = none_seen c.in-Ok.scan c.in-Ok.ensures
+run_command-requires-clause-stands g c = none_seen c.in_ok-scan.scan c.in_ok-scan.ensures

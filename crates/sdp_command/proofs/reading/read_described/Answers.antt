@@ -8,19 +8,19 @@ use Rattle.sdp_command.proofs.reading.read_described.Goals as goal
 pub returns-clause-after : goal.returns-clause-after
 returns-clause-after g c =
     let before = g.F.Files.disk c.args.files.now in
-    let mid = g.F.Files.disk c.read_file.new.files in
+    let mid = g.F.Files.disk c.read_input.new.files in
     let sdp = before.contents c.args.sdp.now in
     let times = before.contents c.args.times.now in
     reads_described c.script_in.result c.args.sdp.now c.args.times.now c.deref.result.now
-    c.deref-2.result.now before (g.F.Files.disk c.read_file-2.new.files)
+    c.deref-2.result.now before (g.F.Files.disk c.read_input-2.new.files)
     (λ told.
     let first : take (1048576 + 1) sdp ≡ c.deref.result.now =
-    sym (c.deref.ensures.value ∙ c.in-Ok.ensures.after told) in
+    sym (c.deref.ensures.value ∙ c.in_ok-sdp.ensures.after told) in
     let second : take (1048576 + 1) times ≡ c.deref-2.result.now =
     sym (c.deref-2.ensures.value
-    ∙ c.in-Ok-read_file.ensures.after (told_then before mid c.read_file.ensures.same told)
+    ∙ c.in_ok-times.ensures.after (told_then before mid c.read_input.ensures.same told)
     ∙ ap (λ (f : List ℕ → List ℕ). take (1048576 + 1) (f c.args.times.now))
-    c.read_file.ensures.same.contents) in
+    c.read_input.ensures.same.contents) in
     sym (fronts_tell sdp times)
     ∙ ap (λ (s : List ℕ). described_script s (take (1048576 + 1) times)) first
     ∙ ap (λ (t : List ℕ). described_script c.deref.result.now t) second)
