@@ -31,7 +31,7 @@ use Rattle.jitter_core.specs.Pushing.{PushStep, SegmentAfter, takes}
 use Rattle.jitter_core.specs.Requesting.{first_due_by}
 use Rattle.jitter_core.specs.Served.{served_in}
 use Rattle.jitter_core.specs.Steps.{IsBounded, LeavesSegment, IsSame}
-use Rattle.jitter_core.specs.Scheduling.{pending_of, pending, IsTimer, AreTimers, AreLater, IsTimed}
+use Rattle.jitter_core.specs.Scheduling.{pending_of, pending, is_over, IsTimer, AreTimers, AreLater, IsTimed}
 use Rattle.jitter_core.proofs.Serving.{IsRequest, requests}
 use Rattle.jitter_core.specs.Turning.{TellsEnd, state_asked, state_wake, output_turn, have_ended, state_sight, state_turn, Gives, Loses, TurnDoes}
 use Rattle.jitter_core.proofs.Agreeing.{after_two}
@@ -120,6 +120,35 @@ refused_timed old new x a p r e h =
     let l : LeavesSegment old new = left_segment old new a p.verdict e r.segment in
     leaves_timed old new x
     (record { settings = r.settings; span = l.span; held = l.held; heights = l.heights; peaks = l.peaks; served = l.served; latency = ap (λ (y : Progress). y.latency) r.progress; ended = ap (λ (y : Progress). y.ended) r.progress; time = rw r.progress (omega arith) }) h
+
+-- ---- where no requests are made
+
+wanted_off : (s : Settings) (v : Sight) (q : ℕ) → s.rtx ≡ false → wanted s v q ≡ None
+wanted_off s v q off = rw off refl
+
+timer_off : (s : Settings) (v w : Sight) (from to q : ℕ) (g : Option ℕ) → s.rtx ≡ false
+    → IsTimer s v from q g → IsTimer s w to q g
+timer_off s v w from to q None off h =
+    record {
+      some = λ t e. cc;
+      none = λ _ _ not. (let over = ap (is_over w.time) (wanted_off s w q off) in cc);
+    }
+timer_off s v w from to q (Some t) off h =
+    let is = (h.some t refl).1 in
+    let none = ap (pending_of s (v.served q)) (wanted_off s v q off) in
+    absurd cc
+
+pub off_timed : (old new : State) (x : Schedule) → new.settings ≡ old.settings
+    → old.settings.rtx ≡ false → IsTimed old x → IsTimed new x
+off_timed old new x same off h =
+    record {
+      room = h.room;
+      right = λ fresh q.
+          timer_at old new (low (state_sight new) new.span.next) q (map.get x.timers.times q) same refl
+          (timer_off old.settings (state_sight old) (state_sight new)
+          (low (state_sight old) old.span.next) (low (state_sight new) new.span.next) q
+          (map.get x.timers.times q) off (h.right fresh q));
+    }
 
 -- stale timers need only have their room
 pub stale_timed : (s : State) (x : Schedule) → x.timers.room ≡ 16384 → x.stale ≡ true → IsTimed s x

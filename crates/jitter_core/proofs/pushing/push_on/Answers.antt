@@ -5,9 +5,32 @@ use Rattle.jitter_core.proofs.Following.{is_next, next_top, next_from, next_rang
 use Rattle.jitter_core.proofs.Passing.{pusher_small}
 use Rattle.jitter_core.proofs.Pushes.{push_keeps}
 use Rattle.jitter_core.proofs.Reached.{reached_after, reached_bounded, reached_list, reached_run, reached_pushers}
-use Rattle.jitter_core.proofs.Retiming.{refused_timed}
+use Rattle.jitter_core.proofs.Retiming.{off_timed, refused_timed}
 use Rattle.jitter_core.proofs.Timers.{few_timers, few_gaps}
 use Rattle.jitter_core.proofs.pushing.push_on.Goals as goal
+
+-- ---- where no requests are made
+
+pub push_packet-requires-clause-bounded : goal.push_packet-requires-clause-bounded
+push_packet-requires-clause-bounded g c = reached_bounded c.runs_are_bounded.ensures c.replies_tell.ensures c.numbers_lie_between.ensures c.args.state.now c.requires.reached
+
+pub push_packet-requires-clause-aside : goal.push_packet-requires-clause-aside
+push_packet-requires-clause-aside g c = reached_list c.runs_are_bounded.ensures c.args.state.now c.requires.reached
+
+pub push_packet-requires-clause-run : goal.push_packet-requires-clause-run
+push_packet-requires-clause-run g c = reached_run c.runs_are_bounded.ensures c.args.state.now c.requires.reached
+
+pub push_packet-requires-clause-pusher : goal.push_packet-requires-clause-pusher
+push_packet-requires-clause-pusher g c =
+    pusher_small c.args.state.now.settings.pushers c.args.a.pusher
+    (reached_pushers c.runs_are_bounded.ensures c.args.state.now c.requires.reached) c.requires.pusher
+
+pub returns-then-not-state-clause-timed : goal.returns-then-not-state-clause-timed
+returns-then-not-state-clause-timed g c =
+    off_timed c.args.state.now c.push_packet.new.state c.args.schedule.now
+    c.push_packet.ensures.settings c.if-not-state.true c.requires.timed
+
+-- ---- where there are
 
 pub is_in_order-in_order-requires : goal.is_in_order-in_order-requires
 is_in_order-in_order-requires g c = reached_bounded c.runs_are_bounded.ensures c.replies_tell.ensures c.numbers_lie_between.ensures c.args.state.now c.requires.reached
