@@ -19,8 +19,8 @@ use Rattle.jitter_model.specs.Said.{Says, Covering, MissesAll, AskedIn}
 use Rattle.jitter_model.specs.Numbered.{IsNumbered, IsDistinct, IsOpened, AreTops, InWindow}
 
 -- A run has valid settings, a latency of at most 600 seconds and at most 2^31 pushes. At most four
--- packets are put aside, in one run. The accepted ones are numbered, each once, and no more than the
--- pushes; they lie in a window, and what was given out is below the next number.
+-- packets are put aside, in one run. The accepted ones are numbered, each once, and no more than
+-- the pushes; they lie in a window, and what was given out is below the next number.
 pub record RunsAreBounded : Type 0 where
   pub settings : (s : Settings) (h : History) → Run s h → IsValid s
   pub latency_is : (s : Settings) (h : History) → Run s h → latency s h ≤ 600000000000
@@ -34,9 +34,9 @@ pub record RunsAreBounded : Type 0 where
   pub late : (s : Settings) (h : History) (n : ℕ) → Run s h → is_out h n ≡ true
       → is_late (next h) n ≡ true
 
--- A verdict is the first one whose tests hold. A reply covers numbers from the lowest one on; a packet
--- is the one that is held; of what is declared lost nothing is held, and each deadline is over. What is
--- asked for was not served before, and what isn't due yet is later than now.
+-- A verdict is the first one whose tests hold. A reply covers numbers from the lowest one on; a
+-- packet is the one that is held; of what is declared lost nothing is held, and each deadline is
+-- over. What is asked for was not served before, and what isn't due yet is later than now.
 pub record RepliesTell : Type 0 where
   pub verdicts : (s : Settings) (h : History) (a : Arrival) (v : Verdict)
       → v ≡ verdict s h a → Says s (view h a) a v
@@ -53,8 +53,8 @@ pub record RepliesTell : Type 0 where
       → nat_le (first_undue s v first served) s.rtx_max ≡ true
       → v.time < due s first (first_undue s v first served)
 
--- The packets that are put aside go on to be a run, and open a segment of consecutive numbers. Numbered
--- packets have a greatest and a least number, and none above the one or below the other.
+-- The packets that are put aside go on to be a run, and open a segment of consecutive numbers.
+-- Numbered packets have a greatest and a least number, and none above the one or below the other.
 pub record NumbersLieBetween : Type 0 where
   pub joined_is : (run : List Arrival) (a : Arrival)
       → IsRun run → IsInRange a → is_original a.origin ≡ true → IsRun (joined run a)

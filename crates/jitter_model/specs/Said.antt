@@ -62,8 +62,8 @@ Says s v a Stray =
 Says s v a Flushing = (v.ended ≡ false) × (v.flushing ≡ true)
 Says s v a Ended = v.ended ≡ true
 
--- what numbers a reply covers: the least one first, then the next one, or those from it on up to one
--- that isn't past the greatest
+-- what numbers a reply covers: the least one first, then the next one, or those from it on up to
+-- one that isn't past the greatest
 abbrev pub Covers : Sight → Option ℕ → Turn → Type 0
 Covers v None (Packet m pts p) = (m ≡ v.least) × (may_start v v.start ≡ true)
 Covers v (Some k) (Packet m pts p) = (m ≡ k) × (v.among k ≡ true)
