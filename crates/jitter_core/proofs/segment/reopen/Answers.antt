@@ -1,6 +1,7 @@
 use Rattle.std.proofs.Common.{ℕ, ◌≡◌, ◌≤◌, sym, ap, subst, ◌∙◌, List, ◌∷◌, ◌++◌, drop, length, Option, Some, arith}
 use Rattle.jitter_model.specs.declared.Arrival.{Arrival}
 use Rattle.jitter_model.specs.Accepted.{number_from}
+use Rattle.jitter_model.specs.Known.{NumbersLieBetween}
 use Rattle.jitter_model.specs.Laws.{IsRun}
 use Rattle.jitter_core.specs.Asides.{newest_first}
 use Rattle.jitter_core.specs.Steps.{IsBounded, CanAccept, run_of, state_number}
@@ -15,23 +16,23 @@ record Room (old s : State) (a : Arrival) : Type 0 where
   bounded : IsBounded s
   may : CanAccept s a (state_number s a)
 
-bounded_at : (old s : State) (done : List Arrival) → IsBounded old → s.settings ≡ old.settings → s.progress ≡ old.progress → IsOpenedBy s done → IsRun done → length done ≤ 5 → IsBounded s
-bounded_at old s done b same going o r few = opened_bounded c.numbers_lie_between.ensures s done (record { latency = rw going b.timely.latency; delay = rw same b.timely.delay; retry_from = rw same b.timely.retry_from; retry_to = rw same b.timely.retry_to }) o r few
+bounded_at : NumbersLieBetween → (old s : State) (done : List Arrival) → IsBounded old → s.settings ≡ old.settings → s.progress ≡ old.progress → IsOpenedBy s done → IsRun done → length done ≤ 5 → IsBounded s
+bounded_at numbers old s done b same going o r few = opened_bounded numbers s done (record { latency = rw going b.timely.latency; delay = rw same b.timely.delay; retry_from = rw same b.timely.retry_from; retry_to = rw same b.timely.retry_to }) o r few
 
-room : (old s : State) (a : Arrival) (rest : List (ℕ × Arrival)) (all : List Arrival) → IsBounded old → s.settings ≡ old.settings → s.progress ≡ old.progress → (o : Opening s rest all) → Some a ≡ first_of rest → IsRun all → length all ≤ 4 → Room old s a
-room old s a rest all b same going o e r few =
+room : NumbersLieBetween → (old s : State) (a : Arrival) (rest : List (ℕ × Arrival)) (all : List Arrival) → IsBounded old → s.settings ≡ old.settings → s.progress ≡ old.progress → (o : Opening s rest all) → Some a ≡ first_of rest → IsRun all → length all ≤ 4 → Room old s a
+room numbers old s a rest all b same going o e r few =
     let left : newest_first (drop 1 rest) ++ a ∷ o.done ≡ all = one_step rest a o.done all e o.splits in
     let run : IsRun (a ∷ o.done) = run_left (newest_first (drop 1 rest)) (a ∷ o.done) all left r in
     let short : length (a ∷ o.done) ≤ length all = end_short (newest_first (drop 1 rest)) (a ∷ o.done) all left in
     record {
-      bounded = bounded_at c.numbers_lie_between.ensures old s o.done b same going o.by (run_rest a o.done run) (omega arith);
-      may = can_accept c.numbers_lie_between.ensures s o.done a o.by run (omega arith);
+      bounded = bounded_at numbers old s o.done b same going o.by (run_rest a o.done run) (omega arith);
+      may = can_accept numbers s o.done a o.by run (omega arith);
     }
 
-last_room : (old s : State) (a : Arrival) (done all : List Arrival) → IsBounded old → s.settings ≡ old.settings → s.progress ≡ old.progress → IsOpenedBy s done → done ≡ all → IsRun (a ∷ all) → length all ≤ 4 → Room old s a
-last_room old s a done all b same going o is r few =
+last_room : NumbersLieBetween → (old s : State) (a : Arrival) (done all : List Arrival) → IsBounded old → s.settings ≡ old.settings → s.progress ≡ old.progress → IsOpenedBy s done → done ≡ all → IsRun (a ∷ all) → length all ≤ 4 → Room old s a
+last_room numbers old s a done all b same going o is r few =
     let by : IsOpenedBy s all = subst (λ (run : List Arrival). IsOpenedBy s run) is o in
-    record { bounded = bounded_at c.numbers_lie_between.ensures old s all b same going by (run_rest a all r) (omega arith); may = can_accept c.numbers_lie_between.ensures s all a by r few }
+    record { bounded = bounded_at numbers old s all b same going by (run_rest a all r) (omega arith); may = can_accept numbers s all a by r few }
 
 pub accept_next-requires-clause-bounded : goal.accept_next-requires-clause-bounded
 accept_next-requires-clause-bounded c =
