@@ -23,6 +23,7 @@ use Rattle.bin_core.specs.Words.{time_of, ahead_of}
 use Rattle.bin_core.specs.Agendas.{Holds, GoesTo, ServesFirst, ServesNothing, CompletesAll, due_first}
 use Rattle.bin_core.specs.Bins.{StandsFor, BinStands, ServesMore, TakesOn, Completes, HasServed}
 use Rattle.bin_core.proofs.Serving.{Steps, Stops, served_after}
+use Rattle.replay_model.specs.Keeping.{TimelinesKeep}
 
 -- the same from here on
 rebase : (c : Contents) (base : Base) (agenda : Agenda) (told : List BinLine) (tl : Timeline) → Holds c base agenda told tl → (before : List BinLine) → Holds c (record { before = before; log = lines tl }) agenda before tl
@@ -112,14 +113,15 @@ abbrev pub Parts : Type 0
 Parts = (c : Contents) (limit t : ℕ) (tl : Timeline) → limit ≤ t → served c t (served c limit tl) ≡ served c t tl
 
 pub serves_more :
-    (c : Contents) (seen : List Input) (told : List BinLine) (t : ℕ) (old new : Bin) (before after : List BinLine)
+    TimelinesKeep
+    → (c : Contents) (seen : List Input) (told : List BinLine) (t : ℕ) (old new : Bin) (before after : List BinLine)
     → Steps → Parts
     → time_of old ≤ t → time_of new ≡ t → ahead_of new ≡ true
     → ServesFirst true t old.agenda new.agenda before after
     → BinStands c old seen told
     → ServesMore c seen told before after new
 unfolding BinStands
-serves_more c seen told t old new before after step parts le time ahead serves st =
+serves_more keeping c seen told t old new before after step parts le time ahead serves st =
     record {
       more = added.more;
       added = added.told_is;
@@ -129,7 +131,7 @@ serves_more c seen told t old new before after step parts le time ahead serves s
             holds = rebase c base new.agenda after next one.2;
             told_is = added.all_is ∙ ap (λ (ls : List BinLine). ls ++ added.more) st.told_is ∙ append_assoc (lines (timeline c (reverse seen))) told added.more;
             same = λ u small. let later : t ≤ u = omega (arith, time, small) in
-                sym (parts c t u next later) ∙ ap (served c u) (served_after step c true t st.now one.0 one.1) ∙ parts c t u st.now later ∙ st.same u (omega (arith, le, later));
+                sym (parts c t u next later) ∙ ap (served c u) (served_after keeping step c true t st.now one.0 one.1) ∙ parts c t u st.now later ∙ st.same u (omega (arith, le, later));
             level = λ e. absurd (differ (sym ahead ∙ e));
           };
     }
@@ -213,16 +215,17 @@ completes c seen told old before after ahead ends st =
 
 -- whether something was served is known by the answer
 pub advances :
-    (c : Contents) (seen : List Input) (told : List BinLine) (t : ℕ) (old new : Bin) (more : Bool) (before after : List BinLine)
+    TimelinesKeep
+    → (c : Contents) (seen : List Input) (told : List BinLine) (t : ℕ) (old new : Bin) (more : Bool) (before after : List BinLine)
     → Steps → Parts
     → time_of old ≤ t → time_of new ≡ t → ahead_of new ≡ (ahead_of old || more)
     → (more ≡ true → ServesFirst true t old.agenda new.agenda before after)
     → (more ≡ false → ServesNothing true t old.agenda new.agenda before after)
     → BinStands c old seen told
     → ServesMore c seen told before after new
-advances c seen told t old new more before after step parts le time ahead first none st =
+advances keeping c seen told t old new more before after step parts le time ahead first none st =
     by_cases more
-    (λ e. serves_more c seen told t old new before after step parts le time (ahead ∙ ap (λ (b : Bool). ahead_of old || b) e ∙ or_true (ahead_of old)) (first e) st)
+    (λ e. serves_more keeping c seen told t old new before after step parts le time (ahead ∙ ap (λ (b : Bool). ahead_of old || b) e ∙ or_true (ahead_of old)) (first e) st)
     (λ e. serves_none c seen told t old new before after le time (λ f. or_first (ahead_of old) more (sym ahead ∙ f)) (none e) st)
   where
     or_true : (a : Bool) → (a || true) ≡ true

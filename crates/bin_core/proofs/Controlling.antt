@@ -17,17 +17,17 @@ use Rattle.replay_model.specs.Events.{Timeline, Acted, At, front, kept, items, o
 use Rattle.replay_model.specs.Lanes.{lane_count, opened}
 use Rattle.replay_model.specs.Acting.{is_for, done_to, acted_on, all_acted, ticked_where}
 use Rattle.replay_model.specs.Log.{with_item}
-use Rattle.replay_model.proofs.Keeping.{all_acted_openings, acted_front}
 use Rattle.lane_core.specs.declared.lane.Lane.{Lane}
 use Rattle.lane_core.specs.Lanes.{Base}
 use Rattle.lane_core.specs.AllLanes.{LanesRest, SameLanes, ActOn, all_resting}
-use Rattle.lane_core.proofs.Placing.{lanes_apart, lanes_opened, lanes_fewer}
 use Rattle.bin_core.specs.declared.standings.Standing.{Standing}
 use Rattle.bin_core.specs.declared.stage.Stage.{Stage}
 use Rattle.bin_core.specs.Stages.{StageTells, TicksListed, standing, standing_by}
 use Rattle.bin_core.specs.Touching.{is_listed}
 use Rattle.bin_core.proofs.Staging.{standing_by_items}
 use Rattle.bin_core.proofs.Ticking.{opened_same, where_same, not_true}
+use Rattle.replay_model.specs.Keeping.{TimelinesKeep}
+use Rattle.lane_core.specs.Beside.{LanesStandBeside}
 
 -- ---- what stays
 
@@ -78,7 +78,8 @@ some_lane [] k lt = absurd (omega (arith, lt))
 some_lane (l ∷ ls) k lt = l
 
 pub controls :
-    (c : Contents) (base : Base) (s one new : Stage) (i : Item) (touched : List ℕ) (before mid after : List BinLine) (tl : Timeline)
+    TimelinesKeep → LanesStandBeside
+    → (c : Contents) (base : Base) (s one new : Stage) (i : Item) (touched : List ℕ) (before mid after : List BinLine) (tl : Timeline)
     → one.front ≡ s.front → one.sync ≡ s.sync
     → ((session : ℕ) (x : Standing) → session < 8 → slice_get s.standings session ≡ Some x → slice_get one.standings session ≡ Some (standing_by i.action session x))
     → SameLanes s.lanes.items one.lanes.items
@@ -87,7 +88,7 @@ pub controls :
     → TicksListed i.time touched one new mid after
     → StageTells c base all_resting s before tl
     → StageTells c base all_resting new after (with_item c i tl)
-controls c base s one new i touched before mid after tl front_is sync_is standing_goes same acts passes ticks h =
+controls keeping beside_law c base s one new i touched before mid after tl front_is sync_is standing_goes same acts passes ticks h =
     subst (λ (x : Timeline). StageTells c base all_resting new after x) end_is (ticks c base there tells)
   where
     o : ℕ → Opening
@@ -100,7 +101,7 @@ controls c base s one new i touched before mid after tl front_is sync_is standin
     there = all_acted o i.time n i.action (Acted i ∷ tl)
 
     opens : openings there ≡ openings tl
-    opens = all_acted_openings o i.time n i.action (Acted i ∷ tl)
+    opens = keeping.actions.openings_are o i.time n i.action (Acted i ∷ tl)
 
     count : lane_count there ≡ lane_count tl
     count = ap (λ (os : List Opening). length os) opens
@@ -125,12 +126,12 @@ controls c base s one new i touched before mid after tl front_is sync_is standin
 
     began : LanesRest o base resting s.lanes.items before (Acted i ∷ tl)
     began =
-        lanes_fewer o base all_resting resting s.lanes.items before (Acted i ∷ tl) (λ k lt r. refl)
-        (lanes_apart o base all_resting s.lanes.items before before [] tl (Acted i ∷ tl) (λ k. refl) refl (sym (append-nil before)) (record { out_is = refl; lost_is = refl; refused_is = refl }) h.lanes)
+        beside_law.fewer o base all_resting resting s.lanes.items before (Acted i ∷ tl) (λ k lt r. refl)
+        (beside_law.apart o base all_resting s.lanes.items before before [] tl (Acted i ∷ tl) (λ k. refl) refl (sym (append-nil before)) (record { out_is = refl; lost_is = refl; refused_is = refl }) h.lanes)
 
     lanes_there : LanesRest o base (λ k. not (is_listed touched k)) one.lanes.items mid there
     lanes_there =
-        lanes_fewer o base resting (λ k. not (is_listed touched k)) one.lanes.items mid there
+        beside_law.fewer o base resting (λ k. not (is_listed touched k)) one.lanes.items mid there
         (λ k lt r. both_of (not (is_listed touched k)) (nat_lt k n) r (let below : k < n = omega (arith, lt, same.count) in grind (arith, common_steps)))
         (acts o base resting (Acted i ∷ tl) apart began)
 
@@ -145,8 +146,8 @@ controls c base s one new i touched before mid after tl front_is sync_is standin
         record {
           count = same.count ∙ h.count ∙ sym count;
           few = omega (arith, h.few, count);
-          lanes = lanes_opened o (opened c there) base (λ k. not (is_listed touched k)) one.lanes.items mid there (λ k lt. ap (λ (f : ℕ → Opening). f k) (sym (opened_same c tl there opens))) lanes_there;
-          front = subst (λ (x : FrontState). FrontStandsFor x c (front there)) (sym front_is) (subst (λ (x : List FrontEvent). FrontStandsFor s.front c x) (sym (acted_front o i.time n i.action (Acted i ∷ tl))) h.front);
+          lanes = beside_law.opened o (opened c there) base (λ k. not (is_listed touched k)) one.lanes.items mid there (λ k lt. ap (λ (f : ℕ → Opening). f k) (sym (opened_same c tl there opens))) lanes_there;
+          front = subst (λ (x : FrontState). FrontStandsFor x c (front there)) (sym front_is) (subst (λ (x : List FrontEvent). FrontStandsFor s.front c x) (sym (keeping.actions.front_is o i.time n i.action (Acted i ∷ tl))) h.front);
           sync = subst (λ (x : List Call). SyncStandsFor one.sync x) (sym kept_are) (subst (λ x. SyncStandsFor x (kept tl)) (sym sync_is) h.sync);
           lanes_kept = subst (λ (x : List Call). All (λ (call : Call). call.lane < lane_count there) x) (sym kept_are)
               (subst (λ (m : ℕ). All (λ (call : Call). call.lane < m) (kept tl)) (sym count) h.lanes_kept);

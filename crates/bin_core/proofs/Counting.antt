@@ -2,8 +2,8 @@
 use Rattle.std.proofs.Common.{◌≡◌, true, refl, [], ◌∷◌}
 use Rattle.timeline.specs.declared.line.BinLine.{BinLine}
 use Rattle.timeline.specs.declared.line.BinLine.TheVariants as line
-use Rattle.lane_core.proofs.Tallying.{Sums}
 use Rattle.replay_sound.specs.Suited.{counts_none}
+use Rattle.lane_core.specs.Lanes.{Sums}
 
 pub line_sums : (x : BinLine) → counts_none x ≡ true → Sums (x ∷ []) 0 0 0
 line_sums (line.Skip a0 a1 a2) = λ e. record { out_is = refl; lost_is = refl; refused_is = refl }

@@ -1,10 +1,10 @@
 -- What a series of turns does beside its lane: a request is told and noted by the front.
 use Rattle.std.proofs.Common.{ℕ, zero, suc, ◌≡◌, Bool, true, false, refl, sym, ap, subst, ◌∙◌, List, [], ◌∷◌, ◌++◌, ◌+◌, length, arith}
-use Rattle.std.specs.Prelude.{◌==◌}
+use Rattle.std.specs.Prelude.{◌==◌, if◌then◌else◌}
 use Rattle.std.proofs.lemmas.Grind.{common_steps}
 use Rattle.std.proofs.lemmas.List.{append-nil}
 use Rattle.jitter_model.specs.declared.Entry.{Entry}
-use Rattle.jitter_model.specs.Turns.{left}
+use Rattle.jitter_model.specs.Turns.{turn, is_quiet, left}
 use Rattle.script_lang.specs.Contents.{Contents}
 use Rattle.timeline.specs.declared.line.BinLine.{BinLine}
 use Rattle.timeline.specs.declared.line.BinLine.TheVariants as told
@@ -15,20 +15,19 @@ use Rattle.front_model.specs.Reports.{nack_bytes}
 use Rattle.replay_model.specs.Events.{Timeline, Fronted, Told, At, front, kept, lane}
 use Rattle.replay_model.specs.Lines.{lines}
 use Rattle.replay_model.specs.Turning.{turned, turns_up_to, all_turns, request, all_requested, sent, asked, settled}
-use Rattle.bin_core.proofs.Cases.{by_cases}
-use Rattle.replay_model.proofs.Turning.{is_rest, turns_quiet, turns_more}
-use Rattle.replay_model.proofs.Serving.{turns_front}
-use Rattle.lane_core.proofs.Tallying.{Sums}
 use Rattle.bin_core.specs.Stages.{requests_behind, nack_lines, Sends}
+use Rattle.lane_core.specs.Lanes.{Sums}
+use Rattle.replay_model.specs.Keeping.{TimelinesKeep}
 
 -- ---- turns
 
 pub turns_kept : (n : ℕ) (o : ℕ → Opening) (t l : ℕ) (tl : Timeline) → kept (turns_up_to n o t l tl) ≡ kept tl
 turns_kept zero o t l tl = refl
-turns_kept (suc n) o t l tl =
-    by_cases (is_rest o l tl)
-    (λ i. ap kept (turns_quiet (suc n) o t l tl i))
-    (λ i. ap kept (turns_more n o t l tl i) ∙ turns_kept n o t l (turned o t l tl))
+turns_kept (suc n) o t l tl = by_either (turns_kept n o t l (turned o t l tl)) (is_quiet (turn (o l).settings (lane l tl)))
+  where
+    by_either : kept (turns_up_to n o t l (turned o t l tl)) ≡ kept tl → (b : Bool) → kept (if b then tl else turns_up_to n o t l (turned o t l tl)) ≡ kept tl
+    by_either below true = refl
+    by_either below false = below
 
 -- ---- requests
 
@@ -65,10 +64,10 @@ nack_sums c t session ssrc (x ∷ xs) = record { out_is = refl; lost_is = refl; 
 abbrev pub turns_of : (ℕ → Opening) → ℕ → ℕ → Entry → Timeline → Timeline
 turns_of o t l e tl = all_turns o t l (At t l e ∷ tl)
 
-pub series_front : (c : Contents) (o : ℕ → Opening) (t l : ℕ) (e : Entry) (tl : Timeline) → front (settled c o t l (At t l e ∷ tl)) ≡ requests_behind (o l).session (o l).ssrc (asked (lane l (turns_of o t l e tl))) (front tl)
-series_front c o t l e tl =
+pub series_front : TimelinesKeep → (c : Contents) (o : ℕ → Opening) (t l : ℕ) (e : Entry) (tl : Timeline) → front (settled c o t l (At t l e ∷ tl)) ≡ requests_behind (o l).session (o l).ssrc (asked (lane l (turns_of o t l e tl))) (front tl)
+series_front keeping c o t l e tl =
     sent_front c (o l) t (asked (lane l (turns_of o t l e tl))) (turns_of o t l e tl)
-    ∙ ap (requests_behind (o l).session (o l).ssrc (asked (lane l (turns_of o t l e tl)))) (turns_front (left (o l).settings (lane l (At t l e ∷ tl))) o t l (At t l e ∷ tl))
+    ∙ ap (requests_behind (o l).session (o l).ssrc (asked (lane l (turns_of o t l e tl)))) (keeping.series.front_is o t l (At t l e ∷ tl))
 
 pub series_kept : (c : Contents) (o : ℕ → Opening) (t l : ℕ) (e : Entry) (tl : Timeline) → kept (settled c o t l (At t l e ∷ tl)) ≡ kept tl
 series_kept c o t l e tl =

@@ -22,11 +22,6 @@ use Rattle.replay_model.specs.Ending.{closed, all_ended}
 use Rattle.replay_model.specs.Log.{with_item, with_done}
 use Rattle.bin_core.proofs.Cases.{by_cases}
 use Rattle.bin_core.proofs.Timelines.{where_yes, where_not}
-use Rattle.replay_model.proofs.Turning.{ticked_latest, settled_items}
-use Rattle.replay_model.proofs.Serving.{ticked_reports}
-use Rattle.replay_model.proofs.Reporting.{reported_front}
-use Rattle.replay_model.proofs.Keeping.{one_openings, serve_openings, where_last, all_stepped_front, acted_front}
-use Rattle.replay_model.proofs.Extending.{Adds, AreAt, then_more, all_stepped_extend, ticked_where_extend, acted_extend}
 use Rattle.lane_core.specs.Lanes.{Base, Adds as AddsLines}
 use Rattle.lane_core.specs.AllLanes.{all_resting, resting_and}
 use Rattle.bin_core.specs.declared.agenda.Agenda.{Agenda}
@@ -36,6 +31,9 @@ use Rattle.bin_core.specs.Intervals.{next_by}
 use Rattle.bin_core.specs.Agendas.{Holds, GoesTo, ServesFirst, ServesNothing, due_first, all_served}
 use Rattle.bin_core.proofs.Staging.{tells_fewer}
 use Rattle.bin_core.proofs.Ticking.{and_other}
+use Rattle.replay_model.specs.Keeping.{Adds, AreAt}
+use Rattle.replay_model.specs.Keeping.{TimelinesKeep}
+use Rattle.lane_core.specs.Beside.{LanesStandBeside}
 
 -- ---- the latest time
 
@@ -59,72 +57,69 @@ fronted_latest t e tl new h =
     let le : t ≤ max t (latest tl) = omega arith in
     added_level t (Fronted t e ∷ tl) new h le ∙ max_comm t (latest tl)
 
-pub taken_adds : (c : Contents) (t : ℕ) (e : FrontEvent) (tl : Timeline) → Adds t (Fronted t e ∷ tl) (taken c t e tl)
-taken_adds c t e tl =
-    let there : Timeline = fronted c t e tl in
-    then_more t (Fronted t e ∷ tl) there (taken c t e tl) (all_stepped_extend c t (steps c (front tl) e) (Fronted t e ∷ tl))
-    (ticked_where_extend c (opened c there) t (is_touched (lane_count tl) (steps c (front tl) e)) (lane_count there) there)
-
 -- ---- report times
 
 -- the next report time hangs on the last one
 pub next_same : (c : Contents) (old new : Timeline) → last_report (front new) ≡ last_report (front old) → next_report c new ≡ next_report c old
 next_same c old new e = ap (λ (n : ℕ). if c.settings.report == 0 then None else Some (n + c.settings.report)) e
 
-pub reported_next : (c : Contents) (t : ℕ) (tl : Timeline) → next_report c (fronted c t (ReportsDue t) tl) ≡ next_by c.settings.report t
-reported_next c t tl = ap (λ (es : List FrontEvent). if c.settings.report == 0 then None else Some (last_report es + c.settings.report)) (reported_front c t tl)
+pub reported_next : TimelinesKeep → (c : Contents) (t : ℕ) (tl : Timeline) → next_report c (fronted c t (ReportsDue t) tl) ≡ next_by c.settings.report t
+reported_next keeping c t tl = ap (λ (es : List FrontEvent). if c.settings.report == 0 then None else Some (last_report es + c.settings.report)) (keeping.steps.reports_are c t tl)
 
-taken_last : (c : Contents) (t : ℕ) (e : FrontEvent) (tl : Timeline) → last_report (front (taken c t e tl)) ≡ last_report (e ∷ front tl)
-taken_last c t e tl =
+taken_last : TimelinesKeep → (c : Contents) (t : ℕ) (e : FrontEvent) (tl : Timeline) → last_report (front (taken c t e tl)) ≡ last_report (e ∷ front tl)
+taken_last keeping c t e tl =
     let there : Timeline = fronted c t e tl in
-    where_last c (opened c there) t (is_touched (lane_count tl) (steps c (front tl) e)) (lane_count there) there
-    ∙ ap last_report (all_stepped_front c t (steps c (front tl) e) (Fronted t e ∷ tl))
+    keeping.ticks.last_is c (opened c there) t (is_touched (lane_count tl) (steps c (front tl) e)) (lane_count there) there
+    ∙ ap last_report (keeping.steps.front_is c t (steps c (front tl) e) (Fronted t e ∷ tl))
 
 -- ---- what is served
 
 pub reports_at :
-    (c : Contents) (base : Base) (t : ℕ) (old new : Agenda) (before after : List BinLine) (tl : Timeline)
+    TimelinesKeep
+    → (c : Contents) (base : Base) (t : ℕ) (old new : Agenda) (before after : List BinLine) (tl : Timeline)
     → new.interval ≡ old.interval → new.next_report ≡ next_by old.interval t → new.latest ≡ max old.latest t
     → GoesOn old.stage new.stage before after (λ k. fronted k t (ReportsDue t))
     → Holds c base old before tl
     → Holds c base new after (fronted c t (ReportsDue t) tl)
-reports_at c base t old new before after tl same next_is last_is goes h =
+reports_at keeping c base t old new before after tl same next_is last_is goes h =
     record {
       stage = goes c base tl h.stage;
       interval = same ∙ h.interval;
-      next = next_is ∙ ap (λ (n : ℕ). next_by n t) h.interval ∙ sym (reported_next c t tl);
+      next = next_is ∙ ap (λ (n : ℕ). next_by n t) h.interval ∙ sym (reported_next keeping c t tl);
       last = last_is ∙ ap (λ (n : ℕ). max n t) h.last
-          ∙ sym (fronted_latest t (ReportsDue t) tl (fronted c t (ReportsDue t) tl) (all_stepped_extend c t (steps c (front tl) (ReportsDue t)) (Fronted t (ReportsDue t) ∷ tl)));
+          ∙ sym (fronted_latest t (ReportsDue t) tl (fronted c t (ReportsDue t) tl) (keeping.adding.fronts c t (ReportsDue t) tl));
     }
 
 pub turns_at :
-    (c : Contents) (base : Base) (t n : ℕ) (old new : Agenda) (before after : List BinLine) (tl : Timeline)
+    TimelinesKeep → LanesStandBeside
+    → (c : Contents) (base : Base) (t n : ℕ) (old new : Agenda) (before after : List BinLine) (tl : Timeline)
     → new.interval ≡ old.interval → new.next_report ≡ old.next_report → new.latest ≡ max old.latest t
     → Ticks t n old.stage new.stage before after
     → Holds c base old before tl
     → Holds c base new after (ticked c (opened c tl) t n tl)
-turns_at c base t n old new before after tl same next_is last_is ticks h =
+turns_at keeping beside_law c base t n old new before after tl same next_is last_is ticks h =
     let there : Timeline = ticked c (opened c tl) t n tl in
     record {
-      stage = tells_fewer c base (resting_and n all_resting) all_resting new.stage after there (λ k lt e. and_other all_resting n k (λ ne. refl)) (ticks c base all_resting tl h.stage);
+      stage = tells_fewer beside_law c base (resting_and n all_resting) all_resting new.stage after there (λ k lt e. and_other all_resting n k (λ ne. refl)) (ticks c base all_resting tl h.stage);
       interval = same ∙ h.interval;
-      next = next_is ∙ h.next ∙ sym (ticked_reports c (opened c tl) true t n tl);
-      last = last_is ∙ ap (λ (m : ℕ). max m t) h.last ∙ max_comm (latest tl) t ∙ sym (ticked_latest c (opened c tl) t n tl);
+      next = next_is ∙ h.next ∙ sym (keeping.ticks.report_is c (opened c tl) true t n tl);
+      last = last_is ∙ ap (λ (m : ℕ). max m t) h.last ∙ max_comm (latest tl) t ∙ sym (keeping.ticks.latest_is c (opened c tl) t n tl);
     }
 
 pub takes_at :
-    (c : Contents) (base : Base) (t : ℕ) (e : FrontEvent) (mid new : Agenda) (before after : List BinLine) (tl : Timeline)
+    TimelinesKeep
+    → (c : Contents) (base : Base) (t : ℕ) (e : FrontEvent) (mid new : Agenda) (before after : List BinLine) (tl : Timeline)
     → last_report (e ∷ front tl) ≡ last_report (front tl)
     → new.interval ≡ mid.interval → new.next_report ≡ mid.next_report → new.latest ≡ max mid.latest t
     → GoesOn mid.stage new.stage before after (λ k. taken k t e)
     → Holds c base mid before tl
     → Holds c base new after (taken c t e tl)
-takes_at c base t e mid new before after tl no_report same next_is last_is goes h =
+takes_at keeping c base t e mid new before after tl no_report same next_is last_is goes h =
     record {
       stage = goes c base tl h.stage;
       interval = same ∙ h.interval;
-      next = next_is ∙ h.next ∙ sym (next_same c tl (taken c t e tl) (taken_last c t e tl ∙ no_report));
-      last = last_is ∙ ap (λ (n : ℕ). max n t) h.last ∙ sym (fronted_latest t e tl (taken c t e tl) (taken_adds c t e tl));
+      next = next_is ∙ h.next ∙ sym (next_same c tl (taken c t e tl) (taken_last keeping c t e tl ∙ no_report));
+      last = last_is ∙ ap (λ (n : ℕ). max n t) h.last ∙ sym (fronted_latest t e tl (taken c t e tl) (keeping.adding.records c t e tl));
     }
 
 -- ---- all that is due
@@ -141,10 +136,10 @@ Stops =
     → first_due c o reports count limit tl ≡ None → serve c o reports count limit tl ≡ tl
 
 -- one that is due first, and then the others
-pub served_after : Steps → (c : Contents) (reports : Bool) (limit : ℕ) (tl : Timeline) (d : Due) → due_first c reports limit tl ≡ Some d → all_served reports limit c (serve_one c (opened c tl) d tl) ≡ all_served reports limit c tl
-served_after step c reports limit tl d e =
+pub served_after : TimelinesKeep → Steps → (c : Contents) (reports : Bool) (limit : ℕ) (tl : Timeline) (d : Due) → due_first c reports limit tl ≡ Some d → all_served reports limit c (serve_one c (opened c tl) d tl) ≡ all_served reports limit c tl
+served_after keeping step c reports limit tl d e =
     let new : Timeline = serve_one c (opened c tl) d tl in
-    ap (λ (os : List Opening). serve c (λ l. opening_or c l (slice_get os l)) reports (length os) limit new) (one_openings c (opened c tl) d tl)
+    ap (λ (os : List Opening). serve c (λ l. opening_or c l (slice_get os l)) reports (length os) limit new) (keeping.serving.one c (opened c tl) d tl)
     ∙ sym (step c (opened c tl) reports (lane_count tl) limit tl d e)
 
 -- on the way
@@ -158,13 +153,14 @@ StaysOnWay reports limit old new before after =
     (c : Contents) (base : Base) (tl : Timeline) → Holds c base old before tl → OnWay reports limit new after c base tl
 
 pub one_more :
-    (reports : Bool) (limit : ℕ) (s mid new : Agenda) (before between after : List BinLine)
+    TimelinesKeep
+    → (reports : Bool) (limit : ℕ) (s mid new : Agenda) (before between after : List BinLine)
     → Steps → ServesFirst reports limit mid new between after
     → StaysOnWay reports limit s mid before between → StaysOnWay reports limit s new before after
-one_more reports limit s mid new before between after step serves h c base tl holds =
+one_more keeping reports limit s mid new before between after step serves h c base tl holds =
     let way : OnWay reports limit mid between c base tl = h c base tl holds in
     let one : (d : Due) × (due_first c reports limit way.now ≡ Some d) × Holds c base new after (serve_one c (opened c way.now) d way.now) = serves c base way.now way.holds in
-    record { now = serve_one c (opened c way.now) one.0 way.now; holds = one.2; same = served_after step c reports limit way.now one.0 one.1 ∙ way.same }
+    record { now = serve_one c (opened c way.now) one.0 way.now; holds = one.2; same = served_after keeping step c reports limit way.now one.0 one.1 ∙ way.same }
 
 pub none_more :
     (reports : Bool) (limit : ℕ) (s mid new : Agenda) (before between after : List BinLine)
@@ -213,8 +209,8 @@ some_added t i old new h e = go h.more h.is h.at
     go [] is at = absurd (longer (items old) (sym (ap items is) ∙ e))
     go (x ∷ xs) is at = ap latest is ∙ raised xs x at
 
-item_items : (c : Contents) (i : Item) (tl : Timeline) → items (with_item c i tl) ≡ i ∷ items tl
-item_items c i tl =
+item_items : TimelinesKeep → (c : Contents) (i : Item) (tl : Timeline) → items (with_item c i tl) ≡ i ∷ items tl
+item_items keeping c i tl =
     where_items c (opened c tl) i.time (λ l. is_for i.action (opened c tl l).session) (lane_count tl) (all_acted (opened c tl) i.time (lane_count tl) i.action (Acted i ∷ tl))
     ∙ acted_items (opened c tl) i.time (lane_count tl) i.action (Acted i ∷ tl)
   where
@@ -222,43 +218,45 @@ item_items c i tl =
     where_items c o t passes zero tl = refl
     where_items c o t passes (suc k) tl =
         by_cases (passes k)
-        (λ b. ap items (where_yes c o t passes k tl b) ∙ settled_items c o t k (At t k (Clock t) ∷ ticked_where c o t passes k tl) ∙ where_items c o t passes k tl)
+        (λ b. ap items (where_yes c o t passes k tl b) ∙ keeping.series.items_are c o t k (At t k (Clock t) ∷ ticked_where c o t passes k tl) ∙ where_items c o t passes k tl)
         (λ b. ap items (where_not c o t passes k tl b) ∙ where_items c o t passes k tl)
 
-item_last : (c : Contents) (i : Item) (tl : Timeline) → last_report (front (with_item c i tl)) ≡ last_report (front tl)
-item_last c i tl =
-    where_last c (opened c tl) i.time (λ l. is_for i.action (opened c tl l).session) (lane_count tl) (all_acted (opened c tl) i.time (lane_count tl) i.action (Acted i ∷ tl))
-    ∙ ap last_report (acted_front (opened c tl) i.time (lane_count tl) i.action (Acted i ∷ tl))
+item_last : TimelinesKeep → (c : Contents) (i : Item) (tl : Timeline) → last_report (front (with_item c i tl)) ≡ last_report (front tl)
+item_last keeping c i tl =
+    keeping.ticks.last_is c (opened c tl) i.time (λ l. is_for i.action (opened c tl l).session) (lane_count tl) (all_acted (opened c tl) i.time (lane_count tl) i.action (Acted i ∷ tl))
+    ∙ ap last_report (keeping.actions.front_is (opened c tl) i.time (lane_count tl) i.action (Acted i ∷ tl))
 
 pub controls_at :
-    (c : Contents) (base : Base) (i : Item) (mid new : Agenda) (before after : List BinLine) (tl : Timeline)
+    TimelinesKeep
+    → (c : Contents) (base : Base) (i : Item) (mid new : Agenda) (before after : List BinLine) (tl : Timeline)
     → new.interval ≡ mid.interval → new.next_report ≡ mid.next_report → new.latest ≡ max mid.latest i.time
     → GoesOn mid.stage new.stage before after (λ k. with_item k i)
     → Holds c base mid before tl
     → Holds c base new after (with_item c i tl)
-controls_at c base i mid new before after tl same next_is last_is goes h =
+controls_at keeping c base i mid new before after tl same next_is last_is goes h =
     record {
       stage = goes c base tl h.stage;
       interval = same ∙ h.interval;
-      next = next_is ∙ h.next ∙ sym (next_same c tl (with_item c i tl) (item_last c i tl));
+      next = next_is ∙ h.next ∙ sym (next_same c tl (with_item c i tl) (item_last keeping c i tl));
       last = last_is ∙ ap (λ (n : ℕ). max n i.time) h.last ∙ max_comm (latest tl) i.time
-          ∙ sym (some_added i.time i tl (with_item c i tl) (acted_extend c (opened c tl) (lane_count tl) i tl) (item_items c i tl));
+          ∙ sym (some_added i.time i tl (with_item c i tl) (keeping.adding.items c (opened c tl) (lane_count tl) i tl) (item_items keeping c i tl));
     }
 
 -- ---- the end
 
-serve_opened : (c : Contents) (tl : Timeline) → openings (all_served false END_OF_TIME c tl) ≡ openings tl
-serve_opened c tl = serve_openings _ c (opened c tl) false (lane_count tl) END_OF_TIME tl
+serve_opened : TimelinesKeep → (c : Contents) (tl : Timeline) → openings (all_served false END_OF_TIME c tl) ≡ openings tl
+serve_opened keeping c tl = keeping.serving.all c (opened c tl) false (lane_count tl) END_OF_TIME tl
 
 pub finishes_at :
-    (c : Contents) (base : Base) (mid : Agenda) (start before after : List BinLine) (tl : Timeline)
+    TimelinesKeep → LanesStandBeside
+    → (c : Contents) (base : Base) (mid : Agenda) (start before after : List BinLine) (tl : Timeline)
     → Finishes mid.latest mid.stage before after
     → Holds c base mid before (all_served false END_OF_TIME c tl)
     → AddsLines base after (with_done (closed c tl))
-finishes_at c base mid start before after tl ends h =
+finishes_at keeping beside_law c base mid start before after tl ends h =
     let last : Timeline = all_served false END_OF_TIME c tl in
-    let lowered : StageTells c base none_resting mid.stage before last = tells_fewer c base all_resting none_resting mid.stage before last (λ k lt e. refl) h.stage in
+    let lowered : StageTells c base none_resting mid.stage before last = tells_fewer beside_law c base all_resting none_resting mid.stage before last (λ k lt e. refl) h.stage in
     let all : AddsLines base after (with_done (all_ended c (opened c last) mid.latest (lane_count last) last)) = ends c base last lowered in
-    let opens : openings last ≡ openings tl = serve_opened c tl in
+    let opens : openings last ≡ openings tl = serve_opened keeping c tl in
     subst (λ (t : ℕ). AddsLines base after (with_done (all_ended c (opened c tl) t (lane_count tl) last))) h.last
     (subst (λ (os : List Opening). AddsLines base after (with_done (all_ended c (λ l. opening_or c l (slice_get os l)) mid.latest (length os) last))) opens all)

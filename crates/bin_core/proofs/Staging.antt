@@ -21,13 +21,10 @@ use Rattle.replay_model.specs.Lanes.{lane_count, opened, latency_of, is_flushing
 use Rattle.replay_model.specs.Turning.{all_turns, asked, settled}
 use Rattle.replay_model.specs.Taking.{touches, flushed_at_begin, begun, fronted, all_stepped}
 use Rattle.front_model.specs.Steps.{steps}
-use Rattle.replay_model.proofs.Turning.{settled_lane, settled_items}
-use Rattle.replay_model.proofs.Keeping.{settled_openings}
 use Rattle.bin_core.proofs.Timelines.{same_opened}
 use Rattle.lane_core.specs.declared.lane.Lane.{Lane}
 use Rattle.lane_core.specs.Lanes.{GoesOn as LaneGoesOn, pushed_at, Base, Around, LaneTells, LaneAsks}
 use Rattle.lane_core.specs.AllLanes.{LanesRest, BeginsAs, AddsLane, Open, all_resting, resting_and, resting_but, wakes_in}
-use Rattle.lane_core.proofs.Placing.{around, one_tells, lanes_go_on, lanes_rest, lanes_apart, lanes_opened, lanes_fewer}
 use Rattle.bin_core.specs.declared.standings.Standing.{Standing}
 use Rattle.bin_core.specs.declared.stage.Stage.{Stage}
 use Rattle.replay_sound.specs.Suited.{counts_none}
@@ -36,6 +33,9 @@ use Rattle.bin_core.proofs.Cases.{by_cases}
 use Rattle.bin_core.proofs.Waking.{wakes_other}
 use Rattle.bin_core.proofs.Counting.{line_sums}
 use Rattle.bin_core.proofs.Sending.{turns_of, nack_sums, series_front, series_kept, series_lines}
+use Rattle.lane_core.specs.AllLanes.{around}
+use Rattle.replay_model.specs.Keeping.{TimelinesKeep}
+use Rattle.lane_core.specs.Beside.{LanesStandBeside}
 
 -- the same lanes began, the same reports were kept, and the same items came
 pub record SameBeside (old new : Timeline) : Type 0 where
@@ -58,19 +58,20 @@ abbrev pub standing_by_items : Contents → ℕ → List Item → Standing
 standing_by_items c session xs = record { latency = latency_after c session xs; flushing = is_flushing_after session xs }
 
 pub tells_on :
-    (c : Contents) (base : Base) (resting rests : ℕ → Bool) (s s' : Stage) (told more : List BinLine) (tl after : Timeline)
+    LanesStandBeside
+    → (c : Contents) (base : Base) (resting rests : ℕ → Bool) (s s' : Stage) (told more : List BinLine) (tl after : Timeline)
     → StageTells c base resting s told tl
     → SameBeside tl after
     → SameStage s s'
     → FrontStandsFor s'.front c (front after)
     → LanesRest (opened c tl) base rests s'.lanes.items more after
     → StageTells c base rests s' more after
-tells_on c base resting rests s s' told more tl after h beside same fronts lanes =
+tells_on beside_law c base resting rests s s' told more tl after h beside same fronts lanes =
     let count : lane_count after ≡ lane_count tl = count_same tl after beside.openings_are in
     record {
       count = same.count ∙ h.count ∙ sym count;
       few = omega (arith, h.few);
-      lanes = lanes_opened (opened c tl) (opened c after) base rests s'.lanes.items more after (λ k lt. sym (same_opened c tl after k beside.openings_are)) lanes;
+      lanes = beside_law.opened (opened c tl) (opened c after) base rests s'.lanes.items more after (λ k lt. sym (same_opened c tl after k beside.openings_are)) lanes;
       front = fronts;
       sync = subst (λ (x : List Call). SyncStandsFor s'.sync x) (sym beside.kept_are) (subst (λ x. SyncStandsFor x (kept tl)) (sym same.sync) h.sync);
       lanes_kept = subst (λ (x : List Call). All (λ (call : Call). call.lane < lane_count after) x) (sym beside.kept_are)
@@ -82,15 +83,16 @@ tells_on c base resting rests s s' told more tl after h beside same fronts lanes
 
 -- fewer lanes are at rest
 pub tells_fewer :
-    (c : Contents) (base : Base) (resting fewer : ℕ → Bool) (s : Stage) (told : List BinLine) (tl : Timeline)
+    LanesStandBeside
+    → (c : Contents) (base : Base) (resting fewer : ℕ → Bool) (s : Stage) (told : List BinLine) (tl : Timeline)
     → ((k : ℕ) → k < length s.lanes.items → fewer k ≡ true → resting k ≡ true)
     → StageTells c base resting s told tl
     → StageTells c base fewer s told tl
-tells_fewer c base resting fewer s told tl le h =
+tells_fewer beside_law c base resting fewer s told tl le h =
     record {
       count = h.count;
       few = h.few;
-      lanes = lanes_fewer (opened c tl) base resting fewer s.lanes.items told tl le h.lanes;
+      lanes = beside_law.fewer (opened c tl) base resting fewer s.lanes.items told tl le h.lanes;
       front = h.front;
       sync = h.sync;
       lanes_kept = h.lanes_kept;
@@ -99,15 +101,16 @@ tells_fewer c base resting fewer s told tl le h =
 
 -- A lane takes a call and turns, and what it asked for is sent.
 pub settles :
-    (c : Contents) (base : Base) (resting : ℕ → Bool) (s s' : Stage) (n t : ℕ) (e : Entry) (was b : Lane) (numbers : List ℕ) (before mid after : List BinLine) (tl : Timeline)
+    TimelinesKeep → LanesStandBeside
+    → (c : Contents) (base : Base) (resting : ℕ → Bool) (s s' : Stage) (n t : ℕ) (e : Entry) (was b : Lane) (numbers : List ℕ) (before mid after : List BinLine) (tl : Timeline)
     → n < length s.lanes.items → was ≡ get_or s.lanes.items n was
     → s'.lanes.items ≡ set s.lanes.items n b → s'.sync ≡ s.sync → s'.standings ≡ s.standings
     → ((o : ℕ → Opening) (a : Around) (k : ℕ) (now : Timeline) → LaneTells o a k was before now → LaneAsks o a k b numbers mid (all_turns o t k (At t k e ∷ now)))
     → Sends t b.session b.ssrc numbers s.front s'.front mid after
     → StageTells c base resting s before tl
     → StageTells c base (resting_and n resting) s' after (settled c (opened c tl) t n (At t n e ∷ tl))
-settles c base resting s s' n t e was b numbers before mid after tl lt is lanes_are sync_is standings_are goes sends h =
-    tells_on c base resting (resting_and n resting) s s' before after tl new h beside same fronts rested
+settles keeping beside_law c base resting s s' n t e was b numbers before mid after tl lt is lanes_are sync_is standings_are goes sends h =
+    tells_on beside_law c base resting (resting_and n resting) s s' before after tl new h beside same fronts rested
   where
     o : ℕ → Opening
     o = opened c tl
@@ -119,16 +122,16 @@ settles c base resting s s' n t e was b numbers before mid after tl lt is lanes_
     new = settled c o t n (At t n e ∷ tl)
 
     beside : SameBeside tl new
-    beside = record { openings_are = settled_openings c o t n (At t n e ∷ tl); kept_are = series_kept c o t n e tl; items_are = settled_items c o t n (At t n e ∷ tl) }
+    beside = record { openings_are = keeping.series.openings_are c o t n (At t n e ∷ tl); kept_are = series_kept c o t n e tl; items_are = keeping.series.items_are c o t n (At t n e ∷ tl) }
 
     same : SameStage s s'
     same = record { count = ap (λ (x : List Lane). length x) lanes_are ∙ length-set s.lanes.items n b; sync = sync_is; standings = standings_are }
 
     asks : LaneAsks o (around base s.lanes.items n tl) n b numbers mid mid_tl
-    asks = goes o (around base s.lanes.items n tl) n tl (one_tells o base s.lanes.items n was before tl lt is h.lanes.tells)
+    asks = goes o (around base s.lanes.items n tl) n tl (beside_law.each o base s.lanes.items n was before tl lt is h.lanes.tells)
 
     rest_mid : LanesRest o base (resting_and n resting) (set s.lanes.items n b) mid mid_tl
-    rest_mid = lanes_rest o base resting s.lanes.items n was b before mid tl mid_tl lt is h.lanes (λ k. asks.rests)
+    rest_mid = beside_law.rest o base resting s.lanes.items n was b before mid tl mid_tl lt is h.lanes (λ k. asks.rests)
 
     session_is : b.session ≡ (o n).session
     session_is = asks.rests.tells.holds.session_is
@@ -146,7 +149,7 @@ settles c base resting s s' n t e was b numbers before mid after tl lt is lanes_
     fronts =
         subst (λ (x : List FrontEvent). FrontStandsFor s'.front c x)
         (ap (λ (x : ℕ). requests_behind x b.ssrc numbers (front tl)) session_is ∙ ap (λ (x : ℕ). requests_behind (o n).session x numbers (front tl)) ssrc_is
-        ∙ ap (λ (x : List ℕ). requests_behind (o n).session (o n).ssrc x (front tl)) asked_are ∙ sym (series_front c o t n e tl)) sent_is.0
+        ∙ ap (λ (x : List ℕ). requests_behind (o n).session (o n).ssrc x (front tl)) asked_are ∙ sym (series_front keeping c o t n e tl)) sent_is.0
 
     nacks : List BinLine
     nacks = nack_lines c t (o n).session (o n).ssrc (asked (lane n mid_tl))
@@ -159,8 +162,8 @@ settles c base resting s s' n t e was b numbers before mid after tl lt is lanes_
     rested : LanesRest o base (resting_and n resting) s'.lanes.items after new
     rested =
         subst (λ (x : List Lane). LanesRest o base (resting_and n resting) x after new) (sym lanes_are)
-        (lanes_apart o base (resting_and n resting) (set s.lanes.items n b) mid after nacks mid_tl new
-        (λ k. settled_lane c o t n k (At t n e ∷ tl)) (series_lines c o t n e tl) added (nack_sums c t (o n).session (o n).ssrc (asked (lane n mid_tl))) rest_mid)
+        (beside_law.apart o base (resting_and n resting) (set s.lanes.items n b) mid after nacks mid_tl new
+        (λ k. keeping.series.lanes_are c o t n k (At t n e ∷ tl)) (series_lines c o t n e tl) added (nack_sums c t (o n).session (o n).ssrc (asked (lane n mid_tl))) rest_mid)
 
 -- ---- what stays
 
@@ -175,31 +178,33 @@ same_but_one s s' n b e =
 
 -- A line that counts nothing is told.
 pub told_tells :
-    (c : Contents) (base : Base) (resting : ℕ → Bool) (s : Stage) (t : ℕ) (x : BinLine) (before after : List BinLine) (tl : Timeline)
+    LanesStandBeside
+    → (c : Contents) (base : Base) (resting : ℕ → Bool) (s : Stage) (t : ℕ) (x : BinLine) (before after : List BinLine) (tl : Timeline)
     → counts_none x ≡ true → after ≡ before ++ x ∷ []
     → StageTells c base resting s before tl
     → StageTells c base resting s after (Told t x ∷ tl)
-told_tells c base resting s t x before after tl none e h =
-    tells_on c base resting resting s s before after tl (Told t x ∷ tl) h
+told_tells beside_law c base resting s t x before after tl none e h =
+    tells_on beside_law c base resting resting s s before after tl (Told t x ∷ tl) h
     (record { openings_are = refl; kept_are = refl; items_are = refl })
     (record { count = refl; sync = refl; standings = refl })
     h.front
-    (lanes_apart (opened c tl) base resting s.lanes.items before after (x ∷ []) tl (Told t x ∷ tl) (λ k. refl) refl e (line_sums x none) h.lanes)
+    (beside_law.apart (opened c tl) base resting s.lanes.items before after (x ∷ []) tl (Told t x ∷ tl) (λ k. refl) refl e (line_sums x none) h.lanes)
 
 -- Something came to the front.
 pub fronted_tells :
-    (c : Contents) (base : Base) (resting : ℕ → Bool) (s s' : Stage) (t : ℕ) (e : FrontEvent) (before : List BinLine) (tl : Timeline)
+    LanesStandBeside
+    → (c : Contents) (base : Base) (resting : ℕ → Bool) (s s' : Stage) (t : ℕ) (e : FrontEvent) (before : List BinLine) (tl : Timeline)
     → s'.lanes.items ≡ s.lanes.items → s'.sync ≡ s.sync → s'.standings ≡ s.standings
     → FrontStandsFor s'.front c (e ∷ front tl)
     → StageTells c base resting s before tl
     → StageTells c base resting s' before (Fronted t e ∷ tl)
-fronted_tells c base resting s s' t e before tl lanes_are sync_is standings_are fronts h =
-    tells_on c base resting resting s s' before before tl (Fronted t e ∷ tl) h
+fronted_tells beside_law c base resting s s' t e before tl lanes_are sync_is standings_are fronts h =
+    tells_on beside_law c base resting resting s s' before before tl (Fronted t e ∷ tl) h
     (record { openings_are = refl; kept_are = refl; items_are = refl })
     (record { count = ap (λ (x : List Lane). length x) lanes_are; sync = sync_is; standings = standings_are })
     fronts
     (subst (λ (x : List Lane). LanesRest (opened c tl) base resting x before (Fronted t e ∷ tl)) (sym lanes_are)
-    (lanes_apart (opened c tl) base resting s.lanes.items before before [] tl (Fronted t e ∷ tl) (λ k. refl) refl (sym (append-nil before)) (record { out_is = refl; lost_is = refl; refused_is = refl }) h.lanes))
+    (beside_law.apart (opened c tl) base resting s.lanes.items before before [] tl (Fronted t e ∷ tl) (λ k. refl) refl (sym (append-nil before)) (record { out_is = refl; lost_is = refl; refused_is = refl }) h.lanes))
 
 -- ---- a packet
 
@@ -215,7 +220,8 @@ still resting n count x hit apart =
 
 -- A lane goes on, and isn't at rest.
 pub lane_tells :
-    (c : Contents) (base : Base) (resting : ℕ → Bool) (s s' : Stage) (n : ℕ) (was b : Lane) (before after : List BinLine) (tl new : Timeline)
+    LanesStandBeside
+    → (c : Contents) (base : Base) (resting : ℕ → Bool) (s s' : Stage) (n : ℕ) (was b : Lane) (before after : List BinLine) (tl new : Timeline)
     → n < length s.lanes.items → was ≡ get_or s.lanes.items n was
     → s'.lanes.items ≡ set s.lanes.items n b → s'.front ≡ s.front → s'.sync ≡ s.sync → s'.standings ≡ s.standings
     → resting n ≡ false
@@ -223,12 +229,12 @@ pub lane_tells :
     → ((a : Around) → LaneTells (opened c tl) a n was before tl → LaneTells (opened c tl) a n b after new)
     → StageTells c base resting s before tl
     → StageTells c base resting s' after new
-lane_tells c base resting s s' n was b before after tl new lt is lanes_are front_is sync_is standings_are rests beside front_same goes h =
-    tells_on c base resting resting s s' before after tl new h beside
+lane_tells beside_law c base resting s s' n was b before after tl new lt is lanes_are front_is sync_is standings_are rests beside front_same goes h =
+    tells_on beside_law c base resting resting s s' before after tl new h beside
     (record { count = ap (λ (x : List Lane). length x) lanes_are ∙ length-set s.lanes.items n b; sync = sync_is; standings = standings_are })
     (subst (λ (x : FrontState). FrontStandsFor x c (front new)) (sym front_is) (subst (λ (x : List FrontEvent). FrontStandsFor s.front c x) (sym front_same) h.front))
     (subst (λ (x : List Lane). LanesRest (opened c tl) base resting x after new) (sym lanes_are)
-    (lanes_go_on (opened c tl) base resting s.lanes.items n was b before after tl new lt is rests h.lanes (goes (around base s.lanes.items n tl))))
+    (beside_law.go_on (opened c tl) base resting s.lanes.items n was b before after tl new lt is rests h.lanes (goes (around base s.lanes.items n tl))))
 
 -- ---- a lane begins
 
@@ -246,7 +252,8 @@ all_below n m [] le h = All-nil _
 all_below n m (x ∷ xs) le h = All-cons (λ (call : Call). call.lane < m) x xs (let lt : x.lane < n = All-head (λ (call : Call). call.lane < n) x xs h in omega arith) (all_below n m xs le (All-tail (λ (call : Call). call.lane < n) x xs h))
 
 pub opens :
-    (c : Contents) (base : Base) (resting : ℕ → Bool) (s s' : Stage) (t : ℕ) (opening : Opening) (st d : Standing) (before after : List BinLine) (tl : Timeline)
+    LanesStandBeside
+    → (c : Contents) (base : Base) (resting : ℕ → Bool) (s s' : Stage) (t : ℕ) (opening : Opening) (st d : Standing) (before after : List BinLine) (tl : Timeline)
     → AddsLane opening s.lanes.items s'.lanes.items
     → Open t opening st.latency st.flushing s.lanes.items s'.lanes.items before after
     → s'.front ≡ s.front → s'.sync ≡ s.sync → s'.standings ≡ s.standings
@@ -255,11 +262,11 @@ pub opens :
     → AreApart resting (length s.lanes.items) (step.Open opening)
     → StageTells c base resting s before tl
     → StageTells c base resting s' after (begun c t opening tl)
-opens c base resting s s' t opening st d before after tl adds goes front_is sync_is standings_are room below is apart h =
+opens beside_law c base resting s s' t opening st d before after tl adds goes front_is sync_is standings_are room below is apart h =
     record {
       count = long ∙ ap (λ (x : ℕ). x + 1) h.count ∙ sym counted;
       few = omega (arith, counted, h.count, room);
-      lanes = lanes_fewer (opened c new) base (resting_but (length s.lanes.items) resting) resting s'.lanes.items after new fewer
+      lanes = beside_law.fewer (opened c new) base (resting_but (length s.lanes.items) resting) resting s'.lanes.items after new fewer
           (goes c base resting tl begins h.lanes);
       front = subst (λ (x : FrontState). FrontStandsFor x c (front new)) (sym front_is) (subst (λ (x : List FrontEvent). FrontStandsFor s.front c x) (sym front_same) h.front);
       sync = subst (λ (x : List Call). SyncStandsFor s'.sync x) (sym kept_same) (subst (λ x. SyncStandsFor x (kept tl)) (sym sync_is) h.sync);
@@ -313,13 +320,14 @@ opens c base resting s s' t opening st d before after tl adds goes front_is sync
 
 -- A packet comes to a lane.
 pub pushes :
-    (s s' : Stage) (t n : ℕ) (a : Arrival) (was b : Lane) (before after : List BinLine)
+    LanesStandBeside
+    → (s s' : Stage) (t n : ℕ) (a : Arrival) (was b : Lane) (before after : List BinLine)
     → n < length s.lanes.items → was ≡ get_or s.lanes.items n was
     → s'.lanes.items ≡ set s.lanes.items n b → s'.front ≡ s.front → s'.sync ≡ s.sync → s'.standings ≡ s.standings
     → LaneGoesOn was b before after (pushed_at t a)
     → Does t (step.Push n a) s s' before after
-pushes s s' t n a was b before after lt is lanes_are front_is sync_is standings_are goes c base resting tl apart h =
-    lane_tells c base resting s s' n was b before after tl (pushed_at t a (opened c tl) n tl) lt is lanes_are front_is sync_is standings_are
+pushes beside_law s s' t n a was b before after lt is lanes_are front_is sync_is standings_are goes c base resting tl apart h =
+    lane_tells beside_law c base resting s s' n was b before after tl (pushed_at t a (opened c tl) n tl) lt is lanes_are front_is sync_is standings_are
     (still resting n (length s.lanes.items) (step.Push n a) (eq_same n) apart)
     (record { openings_are = refl; kept_are = refl; items_are = refl }) refl
     (λ around k. goes (opened c tl) around n tl k) h
@@ -331,33 +339,35 @@ pushes s s' t n a was b before after lt is lanes_are front_is sync_is standings_
 
 -- Steps that only tell are done.
 pub tells_told :
-    (c : Contents) (base : Base) (resting : ℕ → Bool) (s : Stage) (t : ℕ) (xs : List Step) (ys before after : List BinLine) (tl : Timeline)
+    LanesStandBeside
+    → (c : Contents) (base : Base) (resting : ℕ → Bool) (s : Stage) (t : ℕ) (xs : List Step) (ys before after : List BinLine) (tl : Timeline)
     → AreTold xs ys → after ≡ before ++ ys
     → StageTells c base resting s before tl
     → StageTells c base resting s after (all_stepped c t xs tl)
-tells_told c base resting s t [] ys before after tl told e h =
+tells_told beside_law c base resting s t [] ys before after tl told e h =
     subst (λ (zs : List BinLine). StageTells c base resting s zs tl) (sym (e ∙ ap (λ (zs : List BinLine). before ++ zs) told ∙ append-nil before)) h
-tells_told c base resting s t (step.Tell x ∷ xs) ys before after tl told e h =
-    tells_told c base resting s t xs told.1.0 (before ++ x ∷ []) after (Told t x ∷ tl) told.1.2
+tells_told beside_law c base resting s t (step.Tell x ∷ xs) ys before after tl told e h =
+    tells_told beside_law c base resting s t xs told.1.0 (before ++ x ∷ []) after (Told t x ∷ tl) told.1.2
     (e ∙ ap (λ (zs : List BinLine). before ++ zs) told.1.1 ∙ sym (append_assoc before (x ∷ []) told.1.0))
-    (told_tells c base resting s t x before (before ++ x ∷ []) tl told.0 refl h)
-tells_told c base resting s t (step.Open o ∷ xs) ys before after tl told e h = absurd told
-tells_told c base resting s t (step.Push l a ∷ xs) ys before after tl told e h = absurd told
-tells_told c base resting s t (step.Sync l r ∷ xs) ys before after tl told e h = absurd told
+    (told_tells beside_law c base resting s t x before (before ++ x ∷ []) tl told.0 refl h)
+tells_told beside_law c base resting s t (step.Open o ∷ xs) ys before after tl told e h = absurd told
+tells_told beside_law c base resting s t (step.Push l a ∷ xs) ys before after tl told e h = absurd told
+tells_told beside_law c base resting s t (step.Sync l r ∷ xs) ys before after tl told e h = absurd told
 
 -- Reports of all sessions are told.
 pub reports_told :
-    (c : Contents) (base : Base) (s s' : Stage) (t : ℕ) (e : FrontEvent) (xs : List Step) (before after : List BinLine) (tl : Timeline)
+    LanesStandBeside
+    → (c : Contents) (base : Base) (s s' : Stage) (t : ℕ) (e : FrontEvent) (xs : List Step) (before after : List BinLine) (tl : Timeline)
     → s'.lanes.items ≡ s.lanes.items → s'.sync ≡ s.sync → s'.standings ≡ s.standings
     → FrontStandsFor s'.front c (e ∷ front tl)
     → xs ≡ steps c (front tl) e
     → TellsAll xs before after
     → StageTells c base all_resting s before tl
     → StageTells c base all_resting s' after (fronted c t e tl)
-reports_told c base s s' t e xs before after tl lanes_are sync_is standings_are fronts is told h =
+reports_told beside_law c base s s' t e xs before after tl lanes_are sync_is standings_are fronts is told h =
     subst (λ (ys : List Step). StageTells c base all_resting s' after (all_stepped c t ys (Fronted t e ∷ tl))) is
-    (tells_told c base all_resting s' t xs told.0 before after (Fronted t e ∷ tl) told.2 told.1
-    (fronted_tells c base all_resting s s' t e before tl lanes_are sync_is standings_are fronts h))
+    (tells_told beside_law c base all_resting s' t xs told.0 before after (Fronted t e ∷ tl) told.2 told.1
+    (fronted_tells beside_law c base all_resting s s' t e before tl lanes_are sync_is standings_are fronts h))
 
 -- ---- before anything came
 

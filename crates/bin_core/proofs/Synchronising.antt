@@ -33,12 +33,13 @@ use Rattle.replay_model.specs.Taking.{call_of, offset_line, offsets, last_report
 use Rattle.lane_core.specs.declared.lane.Lane.{Lane}
 use Rattle.lane_core.specs.Lanes.{Base, LaneHolds, LaneTells, Replies, GoesOn, reported_at, replied_at}
 use Rattle.lane_core.specs.AllLanes.{LanesRest}
-use Rattle.lane_core.proofs.Placing.{around, one_tells, lanes_apart, lanes_opened}
 use Rattle.bin_core.proofs.Timelines.{same_opened}
-use Rattle.lane_core.proofs.Tallying.{Sums}
 use Rattle.bin_core.specs.declared.stage.Stage.{Stage}
 use Rattle.bin_core.specs.Stages.{StageTells, AreApart, Keeps}
 use Rattle.bin_core.proofs.Staging.{SameBeside, standing_by_items, lane_tells, still}
+use Rattle.lane_core.specs.AllLanes.{around}
+use Rattle.lane_core.specs.Lanes.{Sums}
+use Rattle.lane_core.specs.Beside.{LanesStandBeside}
 
 -- ---- lines that are told
 
@@ -80,19 +81,20 @@ offset_sums t (z ∷ zs) =
 -- ---- a report that is kept
 
 pub keeps :
-    (c : Contents) (base : Base) (resting : ℕ → Bool) (s s' : Stage) (t n : ℕ) (name : List ℕ) (info : SyncInfo) (before after : List BinLine) (tl : Timeline)
+    LanesStandBeside
+    → (c : Contents) (base : Base) (resting : ℕ → Bool) (s s' : Stage) (t n : ℕ) (name : List ℕ) (info : SyncInfo) (before after : List BinLine) (tl : Timeline)
     → n < length s.lanes.items
     → s'.lanes.items ≡ s.lanes.items → s'.front ≡ s.front → s'.standings ≡ s.standings
     → Keeps t n name info s.sync s'.sync before after
     → StageTells c base resting s before tl
     → StageTells c base resting s' after (offsets_told t name (Kept t (call_of n name info) ∷ tl))
-keeps c base resting s s' t n name info before after tl lt lanes_are front_is standings_are keep h =
+keeps beside_law c base resting s s' t n name info before after tl lt lanes_are front_is standings_are keep h =
     record {
       count = ap (λ (x : List Lane). length x) lanes_are ∙ h.count ∙ sym count;
       few = omega (arith, h.few, count);
-      lanes = lanes_opened (opened c tl) (opened c new) base resting s'.lanes.items after new (λ k below. sym (same_opened c tl new k opens))
+      lanes = beside_law.opened (opened c tl) (opened c new) base resting s'.lanes.items after new (λ k below. sym (same_opened c tl new k opens))
           (subst (λ (x : List Lane). LanesRest (opened c tl) base resting x after new) (sym lanes_are)
-          (lanes_apart (opened c tl) base resting s.lanes.items before after ys tl new (λ k. told_lane t ys k mid) added kept_is.1 (offset_sums t (offsets name (last_reports (call ∷ kept tl) (lane_count tl)))) h.lanes));
+          (beside_law.apart (opened c tl) base resting s.lanes.items before after ys tl new (λ k. told_lane t ys k mid) added kept_is.1 (offset_sums t (offsets name (last_reports (call ∷ kept tl) (lane_count tl)))) h.lanes));
       front = subst (λ (x : FrontState). FrontStandsFor x c (front new)) (sym front_is) (subst (λ (x : List FrontEvent). FrontStandsFor s.front c x) (sym (told_front t ys mid)) h.front);
       sync = subst (λ (x : List Call). SyncStandsFor s'.sync x) (sym (told_kept t ys mid)) kept_is.0;
       lanes_kept = subst (λ (x : List Call). All (λ (y : Call). y.lane < lane_count new) x) (sym (told_kept t ys mid))
@@ -147,7 +149,8 @@ pub record Replied (c : Contents) (base : Base) (resting : ℕ → Bool) (s : St
   pub ssrc_is : was.ssrc ≡ (opened c tl n).ssrc
 
 pub replied :
-    (c : Contents) (base : Base) (resting : ℕ → Bool) (s s' : Stage) (t n : ℕ) (r : SenderReport) (was b : Lane) (reply : Option SyncInfo) (before mid : List BinLine) (tl : Timeline)
+    LanesStandBeside
+    → (c : Contents) (base : Base) (resting : ℕ → Bool) (s s' : Stage) (t n : ℕ) (r : SenderReport) (was b : Lane) (reply : Option SyncInfo) (before mid : List BinLine) (tl : Timeline)
     → n < length s.lanes.items → was ≡ get_or s.lanes.items n was
     → s'.lanes.items ≡ set s.lanes.items n b → s'.front ≡ s.front → s'.sync ≡ s.sync → s'.standings ≡ s.standings
     → Replies was r.ntp_ns r.rtp reply
@@ -155,9 +158,9 @@ pub replied :
     → AreApart resting (length s.lanes.items) (step.Sync n r)
     → StageTells c base resting s before tl
     → Replied c base resting s' t n r was reply mid tl
-replied c base resting s s' t n r was b reply before mid tl lt is lanes_are front_is sync_is standings_are replies goes apart h =
+replied beside_law c base resting s s' t n r was b reply before mid tl lt is lanes_are front_is sync_is standings_are replies goes apart h =
     record {
-      tells = lane_tells c base resting s s' n was b before mid tl (replied_at t r.ntp_ns r.rtp n reply tl) lt is lanes_are front_is sync_is standings_are
+      tells = lane_tells beside_law c base resting s s' n was b before mid tl (replied_at t r.ntp_ns r.rtp n reply tl) lt is lanes_are front_is sync_is standings_are
           (still resting n (length s.lanes.items) (step.Sync n r) (eq_same n) apart)
           (replied_beside t r.ntp_ns r.rtp n reply tl) (replied_front t r.ntp_ns r.rtp n reply tl)
           (λ a k. subst (λ (x : Option SyncInfo). LaneTells o a n b mid (replied_at t r.ntp_ns r.rtp n x tl)) (sym reply_is) (goes o a n tl k)) h;
@@ -170,7 +173,7 @@ replied c base resting s s' t n r was b reply before mid tl lt is lanes_are fron
     o = opened c tl
 
     one : LaneTells o (around base s.lanes.items n tl) n was before tl
-    one = one_tells o base s.lanes.items n was before tl lt is h.lanes.tells
+    one = beside_law.each o base s.lanes.items n was before tl lt is h.lanes.tells
 
     reply_is : reply ≡ report (o n).settings (lane n tl) r.ntp_ns r.rtp
     reply_is = replies (o n) n (lane n tl) one.holds
@@ -207,17 +210,18 @@ synced_nameless c base resting s t n r was reply info mid tl e none h =
 
 -- a source with a CNAME
 pub synced_named :
-    (c : Contents) (base : Base) (resting : ℕ → Bool) (s s' : Stage) (t n : ℕ) (r : SenderReport) (was : Lane) (reply : Option SyncInfo) (info : SyncInfo) (name : List ℕ) (mid after : List BinLine) (tl : Timeline)
+    LanesStandBeside
+    → (c : Contents) (base : Base) (resting : ℕ → Bool) (s s' : Stage) (t n : ℕ) (r : SenderReport) (was : Lane) (reply : Option SyncInfo) (info : SyncInfo) (name : List ℕ) (mid after : List BinLine) (tl : Timeline)
     → reply ≡ Some info → Some name ≡ cname c (front tl) was.session was.ssrc
     → n < length s.lanes.items
     → s'.lanes.items ≡ s.lanes.items → s'.front ≡ s.front → s'.standings ≡ s.standings
     → Keeps t n name info s.sync s'.sync mid after
     → Replied c base resting s t n r was reply mid tl
     → StageTells c base resting s' after (synced c t n r tl)
-synced_named c base resting s s' t n r was reply info name mid after tl e some lt lanes_are front_is standings_are keep h =
+synced_named beside_law c base resting s s' t n r was reply info name mid after tl e some lt lanes_are front_is standings_are keep h =
     subst (λ (x : Timeline). StageTells c base resting s' after x)
     (sym (h.is ∙ ap (λ (x : Option SyncInfo). synced_by c t n r x tl) e ∙ by_name c t n r was info tl (Some name) h.session_is h.ssrc_is some))
-    (keeps c base resting s s' t n name info mid after (replied_at t r.ntp_ns r.rtp n (Some info) tl) lt lanes_are front_is standings_are keep
+    (keeps beside_law c base resting s s' t n name info mid after (replied_at t r.ntp_ns r.rtp n (Some info) tl) lt lanes_are front_is standings_are keep
     (subst (λ (x : Option SyncInfo). StageTells c base resting s mid (replied_at t r.ntp_ns r.rtp n x tl)) e h.tells))
 
 pub long : (ls : List Lane) (n : ℕ) (b : Lane) → n < length ls → n < length (set ls n b)

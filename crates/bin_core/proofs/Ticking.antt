@@ -15,7 +15,6 @@ use Rattle.replay_model.specs.Lanes.{lane_count, opening_or, opened}
 use Rattle.replay_model.specs.Turning.{ticked}
 use Rattle.replay_model.specs.Acting.{ticked_where}
 use Rattle.replay_model.specs.Taking.{touches, is_touched, stepped, all_stepped, taken}
-use Rattle.replay_model.proofs.Keeping.{where_openings, all_stepped_grown, grown_count}
 use Rattle.bin_core.proofs.Timelines.{where_yes, where_not}
 use Rattle.lane_core.specs.Lanes.{Base}
 use Rattle.lane_core.specs.AllLanes.{all_resting, resting_and}
@@ -24,6 +23,8 @@ use Rattle.bin_core.specs.Stages.{StageTells, AreApart, AreAllApart, Does, DoesA
 use Rattle.bin_core.specs.Touching.{is_listed, IsNextListed}
 use Rattle.bin_core.proofs.Cases.{by_cases, any_then, first_not, second_not}
 use Rattle.bin_core.proofs.Staging.{fronted_tells, tells_fewer}
+use Rattle.replay_model.specs.Keeping.{TimelinesKeep}
+use Rattle.lane_core.specs.Beside.{LanesStandBeside}
 
 -- how lanes began is one function where the openings are the same
 pub opened_same : (c : Contents) (old new : Timeline) → openings new ≡ openings old → opened c new ≡ opened c old
@@ -44,9 +45,9 @@ none_below : (a : Bool) (k : ℕ) → (a || nat_lt k 0) ≡ true → a ≡ true
 none_below true k e = refl
 none_below false k e = absurd (let lt : k < 0 = grind (arith, common_steps) in omega (arith, lt))
 
-pub ticks_none : (t : ℕ) (touched : List ℕ) (s : Stage) (before : List BinLine) → TicksBelow t touched 0 s s before before
-ticks_none t touched s before c base tl h =
-    tells_fewer c base (λ k. not (is_listed touched k)) (resting_below (is_listed touched) 0) s before tl
+pub ticks_none : LanesStandBeside → (t : ℕ) (touched : List ℕ) (s : Stage) (before : List BinLine) → TicksBelow t touched 0 s s before before
+ticks_none beside_law t touched s before c base tl h =
+    tells_fewer beside_law c base (λ k. not (is_listed touched k)) (resting_below (is_listed touched) 0) s before tl
     (λ k lt e. none_below (not (is_listed touched k)) k e) h
 
 below_next : (passes : ℕ → Bool) (i k : ℕ) → k ≢ i → resting_below passes (suc i) k ≡ true → resting_below passes i k ≡ true
@@ -64,35 +65,37 @@ and_other resting n k other = by_both (k == n) refl
     by_both false e = other (let ne : k ≢ n = grind (arith, common_steps) in ne)
 
 pub ticks_yes :
-    (t i j : ℕ) (touched : List ℕ) (s mid new : Stage) (before between after : List BinLine)
+    TimelinesKeep → LanesStandBeside
+    → (t i j : ℕ) (touched : List ℕ) (s mid new : Stage) (before between after : List BinLine)
     → j ≡ i + 1 → is_listed touched i ≡ true
     → Ticks t i mid new between after
     → TicksBelow t touched i s mid before between
     → TicksBelow t touched j s new before after
-ticks_yes t i j touched s mid new before between after next hit tick h c base tl tells =
+ticks_yes keeping beside_law t i j touched s mid new before between after next hit tick h c base tl tells =
     let passes : ℕ → Bool = is_listed touched in
     let now : Timeline = ticked_where c (opened c tl) t passes i tl in
-    let same : opened c now ≡ opened c tl = opened_same c tl now (where_openings c (opened c tl) t passes i tl) in
+    let same : opened c now ≡ opened c tl = opened_same c tl now (keeping.ticks.openings_are c (opened c tl) t passes i tl) in
     let one : StageTells c base (resting_and i (resting_below passes i)) new after (ticked c (opened c now) t i now) = tick c base (resting_below passes i) now (h c base tl tells) in
     let there : StageTells c base (resting_and i (resting_below passes i)) new after (ticked_where c (opened c tl) t passes (suc i) tl) =
     subst (λ (x : Timeline). StageTells c base (resting_and i (resting_below passes i)) new after x)
     (ap (λ (o : ℕ → Opening). ticked c o t i now) same ∙ sym (where_yes c (opened c tl) t passes i tl hit)) one in
     let num : suc i ≡ j = omega (arith, next) in
     subst (λ (n : ℕ). StageTells c base (resting_below passes n) new after (ticked_where c (opened c tl) t passes n tl)) num
-    (tells_fewer c base (resting_and i (resting_below passes i)) (resting_below passes (suc i)) new after (ticked_where c (opened c tl) t passes (suc i) tl)
+    (tells_fewer beside_law c base (resting_and i (resting_below passes i)) (resting_below passes (suc i)) new after (ticked_where c (opened c tl) t passes (suc i) tl)
     (λ k lt e. and_other (resting_below passes i) i k (λ ne. below_next passes i k ne e)) there)
 
 pub ticks_not :
-    (t i j : ℕ) (touched : List ℕ) (s mid : Stage) (before between : List BinLine)
+    LanesStandBeside
+    → (t i j : ℕ) (touched : List ℕ) (s mid : Stage) (before between : List BinLine)
     → j ≡ i + 1 → is_listed touched i ≡ false
     → TicksBelow t touched i s mid before between
     → TicksBelow t touched j s mid before between
-ticks_not t i j touched s mid before between next miss h c base tl tells =
+ticks_not beside_law t i j touched s mid before between next miss h c base tl tells =
     let passes : ℕ → Bool = is_listed touched in
     let num : suc i ≡ j = omega (arith, next) in
     subst (λ (n : ℕ). StageTells c base (resting_below passes n) mid between (ticked_where c (opened c tl) t passes n tl)) num
     (subst (λ (x : Timeline). StageTells c base (resting_below passes (suc i)) mid between x) (sym (where_not c (opened c tl) t passes i tl miss))
-    (tells_fewer c base (resting_below passes i) (resting_below passes (suc i)) mid between (ticked_where c (opened c tl) t passes i tl)
+    (tells_fewer beside_law c base (resting_below passes i) (resting_below passes (suc i)) mid between (ticked_where c (opened c tl) t passes i tl)
     (λ k lt e. by_cases (k == i)
     (λ q. let at : k ≡ i = grind (arith, common_steps) in
     let out : passes k ≡ false = ap passes at ∙ miss in
@@ -102,36 +105,39 @@ ticks_not t i j touched s mid before between next miss h c base tl tells =
 
 -- none of these lanes is listed
 pub ticks_gap :
-    (d t i j : ℕ) (touched : List ℕ) (s mid : Stage) (before between : List BinLine)
+    LanesStandBeside
+    → (d t i j : ℕ) (touched : List ℕ) (s mid : Stage) (before between : List BinLine)
     → j ≡ i + d → ((k : ℕ) → i ≤ k → k < j → is_listed touched k ≡ false)
     → TicksBelow t touched i s mid before between
     → TicksBelow t touched j s mid before between
-ticks_gap zero t i j touched s mid before between next none h =
+ticks_gap beside_law zero t i j touched s mid before between next none h =
     let same : i ≡ j = omega (arith, next) in
     subst (λ (n : ℕ). TicksBelow t touched n s mid before between) same h
-ticks_gap (suc d) t i j touched s mid before between next none h =
-    ticks_gap d t (i + 1) j touched s mid before between (omega (arith, next)) (λ k le lt. none k (omega (arith, le)) lt)
-    (ticks_not t i (i + 1) touched s mid before between refl (none i (omega arith) (omega (arith, next))) h)
+ticks_gap beside_law (suc d) t i j touched s mid before between next none h =
+    ticks_gap beside_law d t (i + 1) j touched s mid before between (omega (arith, next)) (λ k le lt. none k (omega (arith, le)) lt)
+    (ticks_not beside_law t i (i + 1) touched s mid before between refl (none i (omega arith) (omega (arith, next))) h)
 
 -- the next listed lane is found
 pub ticks_to :
-    (t i j end : ℕ) (touched : List ℕ) (s mid : Stage) (before between : List BinLine)
+    LanesStandBeside
+    → (t i j end : ℕ) (touched : List ℕ) (s mid : Stage) (before between : List BinLine)
     → IsNextListed touched i end j
     → TicksBelow t touched i s mid before between
     → TicksBelow t touched j s mid before between
-ticks_to t i j end touched s mid before between found h =
-    ticks_gap (j - i) t i j touched s mid before between (omega (arith, found.onward)) found.between h
+ticks_to beside_law t i j end touched s mid before between found h =
+    ticks_gap beside_law (j - i) t i j touched s mid before between (omega (arith, found.onward)) found.between h
 
 pub ticks_all :
-    (t i : ℕ) (touched : List ℕ) (s new : Stage) (before after : List BinLine)
+    LanesStandBeside
+    → (t i : ℕ) (touched : List ℕ) (s new : Stage) (before after : List BinLine)
     → i ≡ length s.lanes.items → length new.lanes.items ≡ length s.lanes.items
     → TicksBelow t touched i s new before after
     → TicksListed t touched s new before after
-ticks_all t i touched s new before after at same h c base tl tells =
+ticks_all beside_law t i touched s new before after at same h c base tl tells =
     let passes : ℕ → Bool = is_listed touched in
     let num : i ≡ lane_count tl = at ∙ tells.count in
     subst (λ (n : ℕ). StageTells c base all_resting new after (ticked_where c (opened c tl) t passes n tl)) num
-    (tells_fewer c base (resting_below passes i) all_resting new after (ticked_where c (opened c tl) t passes i tl)
+    (tells_fewer beside_law c base (resting_below passes i) all_resting new after (ticked_where c (opened c tl) t passes i tl)
     (λ k lt e. let below : k < i = omega (arith, lt, at, same) in
     let is : nat_lt k i ≡ true = grind (arith, common_steps) in
     either (not (passes k)) (nat_lt k i) is)
@@ -154,12 +160,13 @@ pub apart_more : (resting : ℕ → Bool) (n m : ℕ) (x : Step) → n ≤ m →
 apart_more resting n m x le h k r = ((h k r).0, omega (arith, (h k r).1, le))
 
 pub does_more :
-    (t : ℕ) (xs more : List Step) (x : Step) (s mid new : Stage) (before between after : List BinLine)
+    TimelinesKeep
+    → (t : ℕ) (xs more : List Step) (x : Step) (s mid new : Stage) (before between after : List BinLine)
     → more ≡ xs ++ x ∷ []
     → Does t x mid new between after
     → DoesAll t xs s mid before between
     → DoesAll t more s new before after
-does_more t xs more x s mid new before between after is does h =
+does_more keeping t xs more x s mid new before between after is does h =
     subst (λ (ys : List Step). DoesAll t ys s new before after) (sym is) all
   where
     all : DoesAll t (xs ++ x ∷ []) s new before after
@@ -168,7 +175,7 @@ does_more t xs more x s mid new before between after is does h =
         let first : AreAllApart resting (length s.lanes.items) xs =
         λ k r. (first_not (list_any (touches k) xs) (touches k x) (sym (any_then (touches k) xs x) ∙ (apart k r).0), (apart k r).1) in
         let there : StageTells c base resting mid between now = h c base resting tl first tells in
-        let grown : lane_count tl ≤ lane_count now = grown_count tl now (all_stepped_grown c t xs tl) in
+        let grown : lane_count tl ≤ lane_count now = keeping.steps.lanes_stay c t xs tl in
         let last : AreApart resting (length mid.lanes.items) x =
         λ k r. (second_not (list_any (touches k) xs) (touches k x) (sym (any_then (touches k) xs x) ∙ (apart k r).0), let lt : k < length s.lanes.items = (apart k r).1 in omega (arith, lt, tells.count, there.count, grown)) in
         subst (λ (y : Timeline). StageTells c base resting new after y) (sym (stepped_then c t xs x tl)) (does c base resting now last there)
@@ -190,7 +197,8 @@ not_true false e = refl
 
 -- Something comes to the front, its steps are done, and the lanes that they touched tick.
 pub takes :
-    (c : Contents) (base : Base) (s one two new : Stage) (t : ℕ) (e : FrontEvent) (xs : List Step) (touched : List ℕ) (before mid after : List BinLine) (tl : Timeline)
+    LanesStandBeside
+    → (c : Contents) (base : Base) (s one two new : Stage) (t : ℕ) (e : FrontEvent) (xs : List Step) (touched : List ℕ) (before mid after : List BinLine) (tl : Timeline)
     → one.lanes.items ≡ s.lanes.items → one.sync ≡ s.sync → one.standings ≡ s.standings
     → FrontStandsFor one.front c (e ∷ front tl)
     → xs ≡ steps c (front tl) e
@@ -199,7 +207,7 @@ pub takes :
     → TicksListed t touched two new mid after
     → StageTells c base all_resting s before tl
     → StageTells c base all_resting new after (taken c t e tl)
-takes c base s one two new t e xs touched before mid after tl lanes_are sync_is standings_are fronts is passes does ticks h =
+takes beside_law c base s one two new t e xs touched before mid after tl lanes_are sync_is standings_are fronts is passes does ticks h =
     subst (λ (x : Timeline). StageTells c base all_resting new after x) same (ticks c base there listed)
   where
     resting : ℕ → Bool
@@ -207,8 +215,8 @@ takes c base s one two new t e xs touched before mid after tl lanes_are sync_is 
 
     started : StageTells c base resting one before (Fronted t e ∷ tl)
     started =
-        tells_fewer c base all_resting resting one before (Fronted t e ∷ tl) (λ k lt r. refl)
-        (fronted_tells c base all_resting s one t e before tl lanes_are sync_is standings_are fronts h)
+        tells_fewer beside_law c base all_resting resting one before (Fronted t e ∷ tl) (λ k lt r. refl)
+        (fronted_tells beside_law c base all_resting s one t e before tl lanes_are sync_is standings_are fronts h)
 
     there : Timeline
     there = all_stepped c t xs (Fronted t e ∷ tl)
@@ -224,7 +232,7 @@ takes c base s one two new t e xs touched before mid after tl lanes_are sync_is 
     done = does c base resting (Fronted t e ∷ tl) apart started
 
     listed : StageTells c base (λ k. not (is_listed touched k)) two mid there
-    listed = tells_fewer c base resting (λ k. not (is_listed touched k)) two mid there (λ k lt r. ap not (sym (passes k lt)) ∙ r) done
+    listed = tells_fewer beside_law c base resting (λ k. not (is_listed touched k)) two mid there (λ k lt r. ap not (sym (passes k lt)) ∙ r) done
 
     touched_is : (k : ℕ) → k < lane_count there → is_listed touched k ≡ is_touched (lane_count tl) xs k
     touched_is k lt = passes k (omega (arith, lt, done.count)) ∙ ap (λ (n : ℕ). is_touched n xs k) h.count

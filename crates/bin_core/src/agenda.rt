@@ -6,8 +6,9 @@ ghost use Rattle.replay_model.specs.Serving.{earlier as earlier_of, up_to as up_
 use crate::room::Room;
 use crate::stage::Stage;
 use crate::touched::{list_begun, list_given};
+use lane_core::laws::lanes_stand_beside;
 use pcap_file::PcapRecord;
-use replay_model::laws::serves_all;
+use replay_model::laws::{serves_all, timelines_keep};
 use replay_model::{Due, END_OF_TIME, Wake};
 use replay_sound::laws::{scripts_are_sound, steps_suit_a_bin};
 use rtp_units::OutOfMemory;
@@ -77,6 +78,9 @@ impl Agenda {
         ensures stays { IfOk result (λ more. more ≡ false → self.new ≡ self.old) }
         ensures rests { OnOk result (StaysAtRest self.old.stage self.new.stage) }
     {
+        // Laws for the proof; the calls do nothing.
+        timelines_keep();
+        lanes_stand_beside();
         let report = if reports { self.next_report } else { None };
         match up_to(limit, earlier(report, self.stage.next_turn())) {
             None => Ok(false),
@@ -101,6 +105,8 @@ impl Agenda {
         ensures next { OnOk result (self.new.next_report ≡ next_by self.old.interval time) }
         ensures rests { OnOk result (StaysAtRest self.old.stage self.new.stage) }
     {
+        // A law for the proof; the call does nothing.
+        timelines_keep();
         self.stage.report(alloc, time, &mut self.room.steps, lines)?;
         self.next_report = next_after(time, self.interval);
         self.latest = self.latest.max(time);
@@ -121,8 +127,9 @@ impl Agenda {
             (all_served reports limit)) }
         ensures rests { OnOk result (StaysAtRest self.old.stage self.new.stage) }
     {
-        // A law for the proof; the call does nothing.
+        // Laws for the proof; the calls do nothing.
         serves_all();
+        timelines_keep();
         'due: loop {
             if !self.serve_one(alloc, reports, limit, lines)? {
                 return Ok(());
@@ -150,6 +157,8 @@ impl Agenda {
         // Laws for the proof; the calls do nothing.
         steps_suit_a_bin();
         scripts_are_sound();
+        timelines_keep();
+        lanes_stand_beside();
         holds_bytes(rec.bytes.bytes());
         self.serve(alloc, true, time, lines)?;
         let Room { steps, touched } = &mut self.room;
@@ -178,6 +187,8 @@ impl Agenda {
             (λ c tl. with_item c item.now (served c item.now.time tl))) }
         ensures rests { OnOk result (StaysAtRest self.old.stage self.new.stage) }
     {
+        // A law for the proof; the call does nothing.
+        timelines_keep();
         self.serve(alloc, true, item.time, lines)?;
         self.stage
             .control(alloc, item, &mut self.room.touched, lines)?;
@@ -190,6 +201,9 @@ impl Agenda {
         requires { IsAtRest self.old.stage }
         ensures { OnOk result (CompletesAll self.old lines.old lines.new) }
     {
+        // Laws for the proof; the calls do nothing.
+        timelines_keep();
+        lanes_stand_beside();
         self.serve(alloc, false, END_OF_TIME, lines)?;
         self.stage.finish(alloc, self.latest, lines)
     }

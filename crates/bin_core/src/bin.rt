@@ -3,7 +3,7 @@ ghost use Rattle.bin_core.specs.Known.{IsKnown};
 
 use crate::agenda::Agenda;
 use pcap_file::PcapRecord;
-use replay_model::laws::{serves_all, serves_in_parts};
+use replay_model::laws::{serves_all, serves_in_parts, timelines_keep};
 use rtp_units::OutOfMemory;
 use script_lang::{Item, Script};
 use std::alloc::Global;
@@ -104,6 +104,7 @@ impl Bin {
         // Laws for the proof; the calls do nothing.
         serves_all();
         serves_in_parts();
+        timelines_keep();
         self.time = t;
         if self.broken {
             return Err(OutOfMemory);

@@ -8,9 +8,11 @@ use crate::standings::{Standing, after};
 use crate::touched::{list_meant, next_listed};
 use crate::wakes::Wakes;
 use front_model::{Opening, SenderReport, Step};
+use lane_core::laws::lanes_stand_beside;
 use lane_core::{Lane, control, done_line, open};
 use ntp_sync::LaneSync;
 use replay_model::Wake;
+use replay_model::laws::timelines_keep;
 use replay_sound::laws::{reports_only_tell, scripts_are_sound, steps_suit_a_bin};
 use rtp_front::Front;
 use rtp_units::OutOfMemory;
@@ -103,6 +105,7 @@ impl Stage {
         steps_suit_a_bin();
         scripts_are_sound();
         reports_only_tell();
+        lanes_stand_beside();
         steps.clear();
         self.front.report(alloc, time, steps)?;
         tell_all(steps, lines)
@@ -122,6 +125,9 @@ impl Stage {
         ensures rests { OnOk result ((n : ℕ) → Owes n steps.old.items self.old
             → Owes n [] self.new) }
     {
+        // Laws for the proof; the calls do nothing.
+        timelines_keep();
+        lanes_stand_beside();
         for step in steps.drain(..) {
             match step {
                 Step::Tell(line) => lines.push(line)?,
@@ -151,6 +157,8 @@ impl Stage {
         ensures owes { OnOk result ((n : ℕ) (more : List StepOf)
             → Owes n (Open opening.now ∷ more) self.old → Owes n more self.new) }
     {
+        // A law for the proof; the call does nothing.
+        lanes_stand_beside();
         let Standing { latency, flushing } = self.standings[usize::from(opening.session)];
         open(
             &mut self.lanes,
@@ -178,6 +186,8 @@ impl Stage {
         ensures owes { OnOk result ((n : ℕ) (more : List StepOf)
             → Owes n (Sync lane report.now ∷ more) self.old → Owes n more self.new) }
     {
+        // A law for the proof; the call does nothing.
+        lanes_stand_beside();
         let to = &mut self.lanes[usize::from(lane)];
         let (session, ssrc) = (to.session, to.ssrc);
         let Some(info) = to.sync(time, report, lines)? else {
@@ -205,6 +215,9 @@ impl Stage {
         ensures later { OnOk result (IsLater time (wakes_in self.new.lanes.items number)) }
         ensures rests { OnOk result (StaysAtRest self.old self.new) }
     {
+        // Laws for the proof; the calls do nothing.
+        timelines_keep();
+        lanes_stand_beside();
         let lane = &mut self.lanes[number];
         let was = lane.wake;
         let numbers = lane.tick(alloc, time, lines)?;
@@ -235,6 +248,9 @@ impl Stage {
             lines.old lines.new) }
         ensures rests { OnOk result (StaysAtRest self.old self.new) }
     {
+        // Laws for the proof; the calls do nothing.
+        timelines_keep();
+        lanes_stand_beside();
         let end = self.lanes.len();
         let mut number = next_listed(touched, 0, end);
         while number < end {
@@ -258,6 +274,9 @@ impl Stage {
             (λ c. with_item c item.now)) }
         ensures rests { OnOk result (StaysAtRest self.old self.new) }
     {
+        // Laws for the proof; the calls do nothing.
+        timelines_keep();
+        lanes_stand_beside();
         self.standings = after(self.standings, item.action);
         control(&mut self.lanes, item, lines)?;
         list_meant(touched, item.action, self.lanes.as_slice())?;
@@ -279,6 +298,9 @@ impl Stage {
             lines.old lines.new) }
         ensures same { length self.new.lanes.items ≡ length self.old.lanes.items }
     {
+        // Laws for the proof; the calls do nothing.
+        timelines_keep();
+        lanes_stand_beside();
         let lane = &mut self.lanes[number];
         if !lane.has_pusher(pusher) {
             return Ok(());
@@ -309,6 +331,8 @@ impl Stage {
             lines.old lines.new) }
         ensures same { length self.new.lanes.items ≡ length self.old.lanes.items }
     {
+        // A law for the proof; the call does nothing.
+        timelines_keep();
         for pusher in 0..PUSHER_COUNT {
             self.end_pusher(alloc, time, number, pusher, lines)?;
         }
@@ -320,6 +344,8 @@ impl Stage {
         ensures stands { OnOk result (EndsAll time self.old self.new lines.old lines.new) }
         ensures same { length self.new.lanes.items ≡ length self.old.lanes.items }
     {
+        // A law for the proof; the call does nothing.
+        timelines_keep();
         for number in 0..self.lanes.len() {
             self.end_lane(alloc, time, number, lines)?;
         }
@@ -331,6 +357,8 @@ impl Stage {
         requires { IsAtRest self.old }
         ensures { OnOk result (Finishes time self.old lines.old lines.new) }
     {
+        // A law for the proof; the call does nothing.
+        lanes_stand_beside();
         self.end_all(alloc, time, lines)?;
         lines.push(done_line(self.lanes.as_slice(), self.front.taken()))
     }

@@ -16,7 +16,6 @@ use Rattle.jitter_model.specs.Times.{marks, held, expected}
 use Rattle.jitter_model.specs.Requests.{lesser, later, first_from, first_due, Wanted, wanted_next, Asked, earlier}
 use Rattle.jitter_model.specs.Turns.{Sight, low, deadline, wanted, asked_for, asked_from, asked, wake_of_wanted, request_wake, request_wake_from, request_turn, least_from, may_start, may_give, is_lost, ends_loss, loss_end, is_done, output_wake, packet_turn, lost_turn, turn_by, is_fast, sight, turn}
 use Rattle.jitter_model.specs.Runs.{Run}
-use Rattle.jitter_model.proofs.Chain.{least_from_above}
 use Rattle.jitter_core.specs.declared.state.State.{State}
 use Rattle.jitter_core.specs.declared.peaks.Peak.{Peak}
 use Rattle.jitter_core.specs.Marks.{kept, kept_two}
@@ -30,6 +29,9 @@ use Rattle.jitter_core.specs.Steps.{IsPast}
 use Rattle.jitter_core.proofs.Firsts.{stamp_next, stamp_is}
 use Rattle.jitter_core.proofs.Kept.{expected-two, two_all}
 use Rattle.jitter_core.proofs.Passing.{all_ended_is}
+use Rattle.jitter_model.specs.Known.{RunsAreBounded}
+use Rattle.jitter_model.specs.Known.{NumbersLieBetween}
+use Rattle.jitter_model.specs.Known.{SearchesFindTheLeast}
 
 -- ---- sights that agree
 
@@ -84,10 +86,10 @@ end_same s v w o a =
     ∙ ap (λ (d : ℕ). w.among m || nat_lt v.time d) (deadline_same s v w o m a (omega arith))
     ∙ ap (λ (t : ℕ). w.among m || nat_lt t (deadline w m)) a.time)
 
-loss_same : (s : Settings) (v w : Sight) (o : Option ℕ) → Agree s v w o → lost_turn v.marks (low w o) (loss_end v (low w o)) ≡ lost_turn w.marks (low w o) (loss_end w (low w o))
-loss_same s v w o a =
+loss_same : SearchesFindTheLeast → (s : Settings) (v w : Sight) (o : Option ℕ) → Agree s v w o → lost_turn v.marks (low w o) (loss_end v (low w o)) ≡ lost_turn w.marks (low w o) (loss_end w (low w o))
+loss_same searches s v w o a =
     let n : ℕ = low w o in
-    let above : low w o + 1 ≤ loss_end w (low w o) = least_from_above (ends_loss w) (low w o + 1) (w.top - (low w o + 1)) in
+    let above : low w o + 1 ≤ loss_end w (low w o) = searches.from (ends_loss w) (low w o + 1) (w.top - (low w o + 1)) in
     ap (λ (m : ℕ). lost_turn v.marks (low w o) m) (end_same s v w o a)
     ∙ ap (λ (x : ℕ). Lost (low w o) (loss_end w (low w o) - low w o) x (expected v.marks (loss_end w (low w o)) - x)) (a.expected_is (low w o) (omega arith))
     ∙ ap (λ (y : ℕ). Lost (low w o) (loss_end w (low w o) - low w o) (expected w.marks (low w o)) (y - expected w.marks (low w o))) (a.expected_is (loss_end w (low w o)) (omega arith))
@@ -106,13 +108,13 @@ wake_same s v w (Some n) a =
 abbrev reply : Bool → Turn → Bool → Turn → Bool → Bool → Bool → Turn → Turn
 reply give packet lost loss ended done told idle = if give then packet else if lost then loss else if ended && done && not told then End else idle
 
-pub agree_same : (s : Settings) (v w : Sight) (o wake : Option ℕ) → Agree s v w o → output_turn v o wake ≡ output_turn w o wake
-agree_same s v w o wake a =
+pub agree_same : SearchesFindTheLeast → (s : Settings) (v w : Sight) (o wake : Option ℕ) → Agree s v w o → output_turn v o wake ≡ output_turn w o wake
+agree_same searches s v w o wake a =
     ap (λ (n : ℕ). reply (may_give v o) (packet_turn n (v.held n)) (is_lost v o) (lost_turn v.marks n (loss_end v n)) v.ended (is_done v o) v.told (Idle (lesser (output_wake v o) wake))) a.low_is
     ∙ ap (λ (b : Bool). reply b (packet_turn (low w o) (v.held (low w o))) (is_lost v o) (lost_turn v.marks (low w o) (loss_end v (low w o))) v.ended (is_done v o) v.told (Idle (lesser (output_wake v o) wake))) (give_same s v w o a)
     ∙ ap (λ (x : Option Held). reply (may_give w o) (packet_turn (low w o) x) (is_lost v o) (lost_turn v.marks (low w o) (loss_end v (low w o))) v.ended (is_done v o) v.told (Idle (lesser (output_wake v o) wake))) a.held_is
     ∙ ap (λ (b : Bool). reply (may_give w o) (packet_turn (low w o) (w.held (low w o))) b (lost_turn v.marks (low w o) (loss_end v (low w o))) v.ended (is_done v o) v.told (Idle (lesser (output_wake v o) wake))) (lost_same s v w o a)
-    ∙ ap (λ (t : Turn). reply (may_give w o) (packet_turn (low w o) (w.held (low w o))) (is_lost w o) t v.ended (is_done v o) v.told (Idle (lesser (output_wake v o) wake))) (loss_same s v w o a)
+    ∙ ap (λ (t : Turn). reply (may_give w o) (packet_turn (low w o) (w.held (low w o))) (is_lost w o) t v.ended (is_done v o) v.told (Idle (lesser (output_wake v o) wake))) (loss_same searches s v w o a)
     ∙ ap (λ (b : Bool). reply (may_give w o) (packet_turn (low w o) (w.held (low w o))) (is_lost w o) (lost_turn w.marks (low w o) (loss_end w (low w o))) b (is_done v o) v.told (Idle (lesser (output_wake v o) wake))) a.ended
     ∙ ap (λ (b : Bool). reply (may_give w o) (packet_turn (low w o) (w.held (low w o))) (is_lost w o) (lost_turn w.marks (low w o) (loss_end w (low w o))) w.ended b v.told (Idle (lesser (output_wake v o) wake))) (done_same s v w o a)
     ∙ ap (λ (b : Bool). reply (may_give w o) (packet_turn (low w o) (w.held (low w o))) (is_lost w o) (lost_turn w.marks (low w o) (loss_end w (low w o))) w.ended (is_done w o) b (Idle (lesser (output_wake v o) wake))) a.told
@@ -161,12 +163,12 @@ next_wake_same s v w o a =
 abbrev unflushed : Option Asked → Turn → Turn
 unflushed x t = if is_some x then request_turn x else t
 
-pub turn_same : (s : Settings) (v w : Sight) (o : Option ℕ) → Agree s v w o → v.flushing ≡ w.flushing → turn_by s v o ≡ turn_by s w o
-turn_same s v w o a f =
+pub turn_same : SearchesFindTheLeast → (s : Settings) (v w : Sight) (o : Option ℕ) → Agree s v w o → v.flushing ≡ w.flushing → turn_by s v o ≡ turn_by s w o
+turn_same searches s v w o a f =
     ap (λ (b : Bool). if b then Flushing else unflushed (asked s v o) (output_turn v o (next_wake s v o))) f
     ∙ ap (λ (x : Option Asked). if w.flushing then Flushing else unflushed x (output_turn v o (next_wake s v o))) (asked_same s v w o a)
     ∙ ap (λ (x : Option ℕ). if w.flushing then Flushing else unflushed (asked s w o) (output_turn v o x)) (next_wake_same s v w o a)
-    ∙ ap (λ (t : Turn). if w.flushing then Flushing else unflushed (asked s w o) t) (agree_same s v w o (next_wake s w o) a)
+    ∙ ap (λ (t : Turn). if w.flushing then Flushing else unflushed (asked s w o) t) (agree_same searches s v w o (next_wake s w o) a)
 
 -- ---- a state and its history
 
@@ -178,11 +180,11 @@ below_same : (P Q : ℕ → Bool) (n : ℕ) → ((p : ℕ) → P p ≡ Q p) → 
 below_same P Q zero same = refl
 below_same P Q (suc n) same = ap (λ (b : Bool). b && P n) (below_same P Q n same) ∙ ap (λ (b : Bool). all_below Q n && b) (same n)
 
-fast_is : (s : State) (h : History) (count : ℕ) → Run s.settings h → Placed s (accepted h) (next h) (is_out h) → next h ≡ None → is_fast_by s count ≡ is_fast count (accepted h)
-fast_is s h count r p e =
+fast_is : RunsAreBounded → NumbersLieBetween → (s : State) (h : History) (count : ℕ) → Run s.settings h → Placed s (accepted h) (next h) (is_out h) → next h ≡ None → is_fast_by s count ≡ is_fast count (accepted h)
+fast_is runs numbers s h count r p e =
     ap (λ (b : Bool). not (count == 0) && b)
     (below_same _ _ count (λ i. ap (λ (l : Option ℕ). is_some (map.get s.held (unwrap_or l 0 + i))) p.least_is
-    ∙ held_has s h (unwrap_or (least (accepted h)) 0 + i) r p (ap (λ (o : Option ℕ). is_late o (unwrap_or (least (accepted h)) 0 + i)) e)))
+    ∙ held_has runs numbers s h (unwrap_or (least (accepted h)) 0 + i) r p (ap (λ (o : Option ℕ). is_late o (unwrap_or (least (accepted h)) 0 + i)) e)))
 
 low_is : (s : State) (h : History) (o : Option ℕ) → Placed s (accepted h) (next h) (is_out h) → low (state_sight s) o ≡ low (sight s.settings h) o
 low_is s h None p = ap (λ (l : Option ℕ). unwrap_or l 0) p.least_is
@@ -222,8 +224,8 @@ first_is s h o m q le =
       | false ↦ λ e. stamp_next o (m + s.settings.reorder) (peaks (accepted h)) (above_low s h o m s.settings.reorder le (grind (arith, common_steps))) ∙ stamp_is (accepted h) (m + s.settings.reorder)
     ] refl)
 
-pub agrees : (s : State) (h : History) → StandsFor s h → is_flushing h ≡ false → Agree s.settings (state_sight s) (sight s.settings h) (next h)
-agrees s h st e =
+pub agrees : RunsAreBounded → NumbersLieBetween → (s : State) (h : History) → StandsFor s h → is_flushing h ≡ false → Agree s.settings (state_sight s) (sight s.settings h) (next h)
+agrees runs numbers s h st e =
     let p : Placed s (accepted h) (next h) (is_out h) = placed_now s h e st.order.placed in
     let m : Marked s (accepted h) (next h) = marked_now s h e st.times.marked in
     let q : Requested s (accepted h) (next h) (served h) = requested_now s h e st.requests.requested in
@@ -235,8 +237,8 @@ agrees s h st e =
       top = ap (λ (t : Option ℕ). unwrap_or t 0) p.top_is;
       start = ap (λ (x : ℕ). later x s.span.first_pts) st.order.latency_is ∙ ap (λ (f : Option ℕ). later (latency s.settings h) f) m.first_is;
       low_is = low_is s h (next h) p;
-      fast_is = λ none. fast_is s h s.settings.faststart st.run p none;
-      among_is = λ q le. held_has s h q st.run p (late_not (next h) (sight s.settings h) q le);
+      fast_is = λ none. fast_is runs numbers s h s.settings.faststart st.run p none;
+      among_is = λ q le. held_has runs numbers s h q st.run p (late_not (next h) (sight s.settings h) q le);
       held_is = held_now s h _ e p;
       expected_is = λ q le. expected_is s h (next h) q m le;
       after_is = λ latency top. ap (λ (ms : List Mark). wanted_next s.settings latency top ms) m.marks_are ∙ after_two s.settings (next h) latency top (marks s.settings (accepted h));
@@ -244,17 +246,17 @@ agrees s h st e =
       served_is = λ n le. q.served_are n (late_not (next h) (sight s.settings h) n le);
     }
 
-turn_now : (s : State) (h : History) → StandsFor s h → is_flushing h ≡ false → state_turn s ≡ turn s.settings h
-turn_now s h st e =
+turn_now : RunsAreBounded → NumbersLieBetween → SearchesFindTheLeast → (s : State) (h : History) → StandsFor s h → is_flushing h ≡ false → state_turn s ≡ turn s.settings h
+turn_now runs numbers searches s h st e =
     let p : Placed s (accepted h) (next h) (is_out h) = placed_now s h e st.order.placed in
     ap (λ (o : Option ℕ). turn_by s.settings (state_sight s) o) p.next_is
-    ∙ turn_same s.settings (state_sight s) (sight s.settings h) (next h) (agrees s h st e) st.order.flushing_is
+    ∙ turn_same searches s.settings (state_sight s) (sight s.settings h) (next h) (agrees runs numbers s h st e) st.order.flushing_is
 
-pub turn_is : (s : State) (h : History) → StandsFor s h → state_turn s ≡ turn s.settings h
-turn_is s h st =
+pub turn_is : RunsAreBounded → NumbersLieBetween → SearchesFindTheLeast → (s : State) (h : History) → StandsFor s h → state_turn s ≡ turn s.settings h
+turn_is runs numbers searches s h st =
     elim (is_flushing h) as (λ b. is_flushing h ≡ b → state_turn s ≡ turn s.settings h) [
       | true ↦ λ e. rw (st.order.flushing_is, e) refl
-      | false ↦ λ e. turn_now s h st e
+      | false ↦ λ e. turn_now runs numbers searches s h st e
     ] refl
 
 -- while a flush runs the answer is Flushing

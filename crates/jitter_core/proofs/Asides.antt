@@ -5,8 +5,8 @@ use Rattle.std.proofs.lemmas.Grind.{common_steps}
 use Rattle.jitter_model.specs.Accepted.{follows}
 use Rattle.jitter_model.specs.declared.Arrival.{Arrival}
 use Rattle.jitter_model.specs.Laws.{IsRun}
-use Rattle.jitter_model.proofs.Numbered.{run_rest}
 use Rattle.jitter_core.specs.Asides.{in_order, newest_first}
+use Rattle.jitter_core.proofs.Cases.{run_rest}
 
 newest-append : (xs : List (ℕ × Arrival)) (x : ℕ × Arrival) → newest_first (xs ++ x ∷ []) ≡ x.1 ∷ newest_first xs
 newest-append [] x = refl

@@ -10,13 +10,14 @@ use Rattle.jitter_timers.specs.Timers.{Times, IsFirst}
 use Rattle.jitter_model.specs.declared.Settings.{Settings}
 use Rattle.jitter_model.specs.Requests.{lesser, due, Wanted, Asked, earlier}
 use Rattle.jitter_model.specs.Turns.{Sight, low, wanted, first_undue, is_asked, asked_for, asked_from, wake_of_wanted, request_wake, request_wake_from}
-use Rattle.jitter_model.proofs.Chain.{split, least_from_above, least_from_is}
-use Rattle.jitter_model.proofs.Waking.{undue_later}
 use Rattle.jitter_core.specs.declared.state.State.{State}
 use Rattle.jitter_core.specs.Steps.{IsBounded}
 use Rattle.jitter_core.specs.Scheduling.{pending_of, pending, is_over, IsTimer, AreTimers, AreLater, state_request}
 use Rattle.jitter_core.specs.Turning.{state_sight, state_asked, state_wake}
 use Rattle.jitter_core.proofs.Timers.{InRange, in_range}
+use Rattle.jitter_core.proofs.Cases.{split}
+use Rattle.jitter_model.specs.Known.{RepliesTell}
+use Rattle.jitter_model.specs.Known.{SearchesFindTheLeast}
 
 -- ---- one number
 
@@ -211,26 +212,26 @@ due_later : (s : Settings) (first j k : ℕ) → j ≤ k → due s first j ≤ d
 due_later s first j k le = let product : j * s.rtx_retry ≤ k * s.rtx_retry = mul-le-mul_right s.rtx_retry le in omega arith
 
 -- where the first unserved request is still to come it is the first that isn't due
-undue_first : (s : Settings) (v : Sight) (first served : ℕ) → v.time < due s first served → first_undue s v first served ≡ served
-undue_first s v first served lt = least_from_is (λ k. nat_lt v.time (due s first k)) served (s.rtx_max + 1 - served) served (omega arith) (omega arith) (λ q from to. absurd (omega arith)) (λ _. grind (arith, common_steps))
+undue_first : SearchesFindTheLeast → (s : Settings) (v : Sight) (first served : ℕ) → v.time < due s first served → first_undue s v first served ≡ served
+undue_first searches s v first served lt = searches.is (λ k. nat_lt v.time (due s first k)) served (s.rtx_max + 1 - served) served (omega arith) (omega arith) (λ q from to. absurd (omega arith)) (λ _. grind (arith, common_steps))
 
-wake_some : (s : Settings) (v : Sight) (n t : ℕ) (x : Option Wanted) → pending_of s (v.served n) x ≡ Some t → v.time < t → wake_of_wanted s v (v.served n) x ≡ Some t
-wake_some s v n t None e lt = cc
-wake_some s v n t (Some w) e lt =
+wake_some : SearchesFindTheLeast → (s : Settings) (v : Sight) (n t : ℕ) (x : Option Wanted) → pending_of s (v.served n) x ≡ Some t → v.time < t → wake_of_wanted s v (v.served n) x ≡ Some t
+wake_some searches s v n t None e lt = cc
+wake_some searches s v n t (Some w) e lt =
     let both : (nat_le (v.served n) s.rtx_max && nat_lt (due s w.first (v.served n)) w.limit) ≡ true = some_if _ (due s w.first (v.served n)) t e in
     let same : due s w.first (v.served n) ≡ t = value_if _ (due s w.first (v.served n)) t e in
-    let is : first_undue s v w.first (v.served n) ≡ v.served n = undue_first s v w.first (v.served n) (omega arith) in
+    let is : first_undue s v w.first (v.served n) ≡ v.served n = undue_first searches s v w.first (v.served n) (omega arith) in
     rw (is, both) (ap Some same)
 
-wake_none : (s : Settings) (v : Sight) (n : ℕ) (x : Option Wanted) → (is_over v.time x ≡ false → pending_of s (v.served n) x ≡ None) → wake_of_wanted s v (v.served n) x ≡ None
-wake_none s v n None e = refl
-wake_none s v n (Some w) e =
+wake_none : RepliesTell → SearchesFindTheLeast → (s : Settings) (v : Sight) (n : ℕ) (x : Option Wanted) → (is_over v.time x ≡ false → pending_of s (v.served n) x ≡ None) → wake_of_wanted s v (v.served n) x ≡ None
+wake_none replies searches s v n None e = refl
+wake_none replies searches s v n (Some w) e =
     let u : ℕ = first_undue s v w.first (v.served n) in
-    let from : v.served n ≤ first_undue s v w.first (v.served n) = least_from_above _ (v.served n) (s.rtx_max + 1 - v.served n) in
+    let from : v.served n ≤ first_undue s v w.first (v.served n) = searches.from _ (v.served n) (s.rtx_max + 1 - v.served n) in
     elim (nat_le (first_undue s v w.first (v.served n)) s.rtx_max && nat_lt (due s w.first (first_undue s v w.first (v.served n))) w.limit) as (λ b. (nat_le (first_undue s v w.first (v.served n)) s.rtx_max && nat_lt (due s w.first (first_undue s v w.first (v.served n))) w.limit) ≡ b → (if b then Some (due s w.first (first_undue s v w.first (v.served n))) else None) ≡ None) [
       | true ↦ λ f.
           let small : nat_le (first_undue s v w.first (v.served n)) s.rtx_max ≡ true = grind (arith, common_steps) in
-          let later : v.time < due s w.first (first_undue s v w.first (v.served n)) = undue_later s v w.first (v.served n) small in
+          let later : v.time < due s w.first (first_undue s v w.first (v.served n)) = replies.undue s v w.first (v.served n) small in
           let before : due s w.first (first_undue s v w.first (v.served n)) < w.limit = grind (arith, common_steps) in
           let order : due s w.first (v.served n) ≤ due s w.first (first_undue s v w.first (v.served n)) = due_later s w.first (v.served n) (first_undue s v w.first (v.served n)) from in
           let alive : is_over v.time (Some w) ≡ false = grind (arith, common_steps) in
@@ -242,18 +243,18 @@ wake_none s v n (Some w) e =
     ] refl
 
 -- once none is due, each timer is the time of the number's next request
-wake_is : (s : Settings) (v : Sight) (from n : ℕ) (o : Option ℕ) → IsTimer s v from n o → ((t : ℕ) → o ≡ Some t → v.time < t) → from ≤ n → request_wake s v n ≡ o
-wake_is s v from n None h l le = wake_none s v n (wanted s v n) (λ alive. h.none refl le alive)
-wake_is s v from n (Some t) h l le = wake_some s v n t (wanted s v n) (h.some t refl).1 (l t refl)
+wake_is : RepliesTell → SearchesFindTheLeast → (s : Settings) (v : Sight) (from n : ℕ) (o : Option ℕ) → IsTimer s v from n o → ((t : ℕ) → o ≡ Some t → v.time < t) → from ≤ n → request_wake s v n ≡ o
+wake_is replies searches s v from n None h l le = wake_none replies searches s v n (wanted s v n) (λ alive. h.none refl le alive)
+wake_is replies searches s v from n (Some t) h l le = wake_some searches s v n t (wanted s v n) (h.some t refl).1 (l t refl)
 
 below_by : (s : Settings) (v : Sight) (from n : ℕ) (o : Option ℕ) → IsTimer s v from n o → n < from → o ≡ None
 below_by s v from n None h lt = refl
 below_by s v from n (Some t) h lt = let le : from ≤ n = (h.some t refl).0 in absurd (omega arith)
 
-pub request_is : (s : State) (m : Times) (n : ℕ) → AreTimers s m → AreLater s.progress.time m → map.get m n ≡ state_request s n
-request_is s m n h l =
+pub request_is : RepliesTell → SearchesFindTheLeast → (s : State) (m : Times) (n : ℕ) → AreTimers s m → AreLater s.progress.time m → map.get m n ≡ state_request s n
+request_is replies searches s m n h l =
     elim (nat_le (low (state_sight s) s.span.next) n) as (λ b. nat_le (low (state_sight s) s.span.next) n ≡ b → map.get m n ≡ (if b then request_wake s.settings (state_sight s) n else None)) [
-      | true ↦ λ e. sym (wake_is s.settings (state_sight s) (low (state_sight s) s.span.next) n (map.get m n) (h n) (l n) (grind (arith, common_steps)))
+      | true ↦ λ e. sym (wake_is replies searches s.settings (state_sight s) (low (state_sight s) s.span.next) n (map.get m n) (h n) (l n) (grind (arith, common_steps)))
       | false ↦ λ e. below_by s.settings (state_sight s) (low (state_sight s) s.span.next) n (map.get m n) (h n) (grind (arith, common_steps))
     ] refl
 
@@ -296,14 +297,14 @@ least_wake s v n (suc count) m t from to e h =
     ] refl
 
 -- the least timer is the time of the next request
-pub first_wake_is : (s : State) (m : Times) (time number : ℕ) → AreTimers s m → AreLater s.progress.time m → IsFirst m (time, number) → Some time ≡ state_wake s
-first_wake_is s m time number h l f =
+pub first_wake_is : RepliesTell → SearchesFindTheLeast → (s : State) (m : Times) (time number : ℕ) → AreTimers s m → AreLater s.progress.time m → IsFirst m (time, number) → Some time ≡ state_wake s
+first_wake_is replies searches s m time number h l f =
     let r : InRange s number = in_range s m number h (ap is_some f.0) in
-    let wake : (q : ℕ) → low (state_sight s) s.span.next ≤ q → request_wake s.settings (state_sight s) q ≡ map.get m q = λ q le. wake_is s.settings (state_sight s) (low (state_sight s) s.span.next) q (map.get m q) (h q) (l q) le in
+    let wake : (q : ℕ) → low (state_sight s) s.span.next ≤ q → request_wake s.settings (state_sight s) q ≡ map.get m q = λ q le. wake_is replies searches s.settings (state_sight s) (low (state_sight s) s.span.next) q (map.get m q) (h q) (l q) le in
     sym (least_wake s.settings (state_sight s) (low (state_sight s) s.span.next) (unwrap_or s.span.top 0 + 2 - low (state_sight s) s.span.next) number time r.from (omega (arith, r.from, r.to)) (wake number r.from ∙ f.0)
     (λ q le u e. elim (f.1 q u (sym (wake q le) ∙ e)) [ inl before ↦ omega arith | inr same ↦ let is = same.0 in omega arith ]))
 
-pub no_wake_is : (s : State) (m : Times) → AreTimers s m → AreLater s.progress.time m → m ≡ map.empty → None ≡ state_wake s
-no_wake_is s m h l e =
+pub no_wake_is : RepliesTell → SearchesFindTheLeast → (s : State) (m : Times) → AreTimers s m → AreLater s.progress.time m → m ≡ map.empty → None ≡ state_wake s
+no_wake_is replies searches s m h l e =
     sym (no_wakes s.settings (state_sight s) (low (state_sight s) s.span.next) (unwrap_or s.span.top 0 + 2 - low (state_sight s) s.span.next) (λ q le.
-    wake_is s.settings (state_sight s) (low (state_sight s) s.span.next) q (map.get m q) (h q) (l q) le ∙ ap (λ (x : Times). map.get x q) e ∙ map.get-empty nat_cmp q))
+    wake_is replies searches s.settings (state_sight s) (low (state_sight s) s.span.next) q (map.get m q) (h q) (l q) le ∙ ap (λ (x : Times). map.get x q) e ∙ map.get-empty nat_cmp q))

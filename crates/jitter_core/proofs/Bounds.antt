@@ -13,11 +13,7 @@ use Rattle.jitter_model.specs.Covered.{next, is_out, count_in}
 use Rattle.jitter_model.specs.Verdicts.{is_late}
 use Rattle.jitter_model.specs.Times.{found, heights}
 use Rattle.jitter_model.specs.Runs.{Run}
-use Rattle.jitter_model.proofs.Chain.{split, has-le}
-use Rattle.jitter_model.proofs.Giving.{has-ge, is_some-found}
 use Rattle.jitter_model.specs.Laws.{IsRun}
-use Rattle.jitter_model.proofs.Numbered.{IsNumbered, IsOpened, AreTops, tops, numbered, opened_numbered, opened_run, length-accepted, pushes_most}
-use Rattle.jitter_model.proofs.Window.{InWindow, window, out_late}
 use Rattle.jitter_core.specs.declared.state.State.{State}
 use Rattle.jitter_core.specs.Parts.{Placed, Clocked, Marked, Requested}
 use Rattle.jitter_core.specs.Steps.{IsTimely, IsBounded}
@@ -26,6 +22,11 @@ use Rattle.jitter_core.proofs.Rooted.{IsRooted, rooted, opened_rooted, some_esti
 use Rattle.jitter_core.proofs.Kept.{marks_bounded, two_to, marks_to, first_small, kept_order, kept_room}
 use Rattle.jitter_core.proofs.Firsts.{peaks_bounded, peaks_order, peaks_room, peaks_reach}
 use Rattle.jitter_core.proofs.Owed.{IsGiven, all_given}
+use Rattle.jitter_model.specs.Numbered.{AreTops, InWindow, IsNumbered, IsOpened}
+use Rattle.jitter_core.proofs.Cases.{split}
+use Rattle.jitter_model.specs.Known.{RunsAreBounded}
+use Rattle.jitter_model.specs.Known.{RepliesTell}
+use Rattle.jitter_model.specs.Known.{NumbersLieBetween}
 
 -- what is known of the accepted packets of a segment
 pub record IsSegment (ps : List Taken) (o : Option ℕ) (out : ℕ → Bool) : Type 0 where
@@ -36,28 +37,28 @@ pub record IsSegment (ps : List Taken) (o : Option ℕ) (out : ℕ → Bool) : T
   pub late : (q : ℕ) → out q ≡ true → is_late o q ≡ true
   pub given : (q : ℕ) → IsGiven ps o out q
 
-pub segment : (s : Settings) (h : History) → Run s h → IsSegment (live h) (live_next h) (live_out h)
-segment s h r =
+pub segment : RunsAreBounded → RepliesTell → NumbersLieBetween → (s : Settings) (h : History) → Run s h → IsSegment (live h) (live_next h) (live_out h)
+segment runs replies numbers s h r =
     elim (is_flushing h) as (λ b. IsSegment (if b then [] else accepted h) (if b then None else next h) (λ n. not b && is_out h n)) [
       | true ↦ record { numbered = tt; rooted = tt; few = omega arith; window = record { fact = tt }; late = λ q e. cc; given = λ q. record { fact = λ e l. cc } }
-      | false ↦ record { numbered = numbered s h r; rooted = (rooted s h r).fact; few = omega (arith, length-accepted h, pushes_most s h r); window = window s h r; late = λ q e. out_late s h q r e; given = λ q. record { fact = (all_given s h q r).fact } }
+      | false ↦ record { numbered = runs.numbered s h r; rooted = (rooted runs replies numbers s h r).fact; few = omega (arith, runs.few h, runs.pushes_are s h r); window = runs.window s h r; late = λ q e. runs.late s h q r e; given = λ q. record { fact = (all_given replies numbers s h q r).fact } }
     ]
 
 length-opened : (run : List Arrival) → length (opened run) ≡ length run
 length-opened [] = refl
 length-opened (a ∷ run) = ap suc (length-opened run)
 
-opened_in : (run : List Arrival) → IsRun run → length run ≤ 5 → InWindow (top (opened run)) (least (opened run)) None
-opened_in [] r few = record { fact = tt }
-opened_in (a ∷ run) r few =
-    let x : IsOpened run a = opened_run run a r in
+opened_in : NumbersLieBetween → (run : List Arrival) → IsRun run → length run ≤ 5 → InWindow (top (opened run)) (least (opened run)) None
+opened_in numbers [] r few = record { fact = tt }
+opened_in numbers (a ∷ run) r few =
+    let x : IsOpened run a = numbers.opened_is run a r in
     let window : InWindow (Some (x.first + length run)) (Some x.first) None = record { fact = (omega arith, omega arith) } in
     let with_top : InWindow (top (opened (a ∷ run))) (Some x.first) None = subst (λ (t : Option ℕ). InWindow t (Some x.first) None) (sym x.top_is) window in
     subst (λ (l : Option ℕ). InWindow (top (opened (a ∷ run))) l None) (sym x.least_is) with_top
 
-pub opened_segment : (run : List Arrival) → IsRun run → length run ≤ 5 → IsSegment (opened run) None (λ q. false)
-opened_segment run r few =
-    record { numbered = opened_numbered run r; rooted = opened_rooted run r; few = omega (arith, length-opened run); window = opened_in run r few; late = λ q e. cc; given = λ q. record { fact = λ e l. cc } }
+pub opened_segment : NumbersLieBetween → (run : List Arrival) → IsRun run → length run ≤ 5 → IsSegment (opened run) None (λ q. false)
+opened_segment numbers run r few =
+    record { numbered = numbers.opened_numbered run r; rooted = opened_rooted run r; few = omega (arith, length-opened run); window = opened_in numbers run r few; late = λ q e. cc; given = λ q. record { fact = λ e l. cc } }
 
 -- ---- each bound
 
@@ -134,10 +135,10 @@ some_found true o e = cc
 some_found false None e = cc
 some_found false (Some x) e = (refl, refl)
 
-pub held_facts : (s : State) (ps : List Taken) (o : Option ℕ) (out : ℕ → Bool) (q : ℕ) → Placed s ps o out → IsSome (map.get s.held q) → (out q ≡ false) × (has ps q ≡ true)
-held_facts s ps o out q p e =
+pub held_facts : NumbersLieBetween → (s : State) (ps : List Taken) (o : Option ℕ) (out : ℕ → Bool) (q : ℕ) → Placed s ps o out → IsSome (map.get s.held q) → (out q ≡ false) × (has ps q ≡ true)
+held_facts numbers s ps o out q p e =
     let x : (out q ≡ false) × (is_some (found s.settings ps q) ≡ true) = some_found (out q) (found s.settings ps q) (subst (λ (y : Option Held). IsSome y) (p.held_are q) e) in
-    (x.0, sym (is_some-found s.settings ps q) ∙ x.1)
+    (x.0, sym (numbers.found_is s.settings ps q) ∙ x.1)
 
 not_late : (ps : List Taken) (o : Option ℕ) (out : ℕ → Bool) (q : ℕ) → IsGiven ps o out q → out q ≡ false → has ps q ≡ true → is_late o q ≡ false
 not_late ps o out q g not_out is =
@@ -167,15 +168,15 @@ top_has (p ∷ q ∷ ps) t some e =
     ] refl
 
 -- the greatest accepted number is held, unless it is out
-held_top : (s : State) (ps : List Taken) (o : Option ℕ) (out : ℕ → Bool) (t : ℕ) → Placed s ps o out → (out t ≡ true → is_late o t ≡ true) → top ps ≡ Some t → is_late o t ≡ false → is_some (map.get s.held t) ≡ true
-held_top s ps o out t p late e not_yet =
+held_top : NumbersLieBetween → (s : State) (ps : List Taken) (o : Option ℕ) (out : ℕ → Bool) (t : ℕ) → Placed s ps o out → (out t ≡ true → is_late o t ≡ true) → top ps ≡ Some t → is_late o t ≡ false → is_some (map.get s.held t) ≡ true
+held_top numbers s ps o out t p late e not_yet =
     let in_here : out t ≡ false = elim (out t) as (λ b. out t ≡ b → b ≡ false) [ true ↦ λ f. (let bad : is_late o t ≡ true = late f in cc) | false ↦ λ _. refl ] refl in
-    ap is_some (p.held_are t) ∙ rw in_here (is_some-found s.settings ps t ∙ top_has ps t (ap is_some e) (ap (λ (x : Option ℕ). unwrap_or x 0) e))
+    ap is_some (p.held_are t) ∙ rw in_here (numbers.found_is s.settings ps t ∙ top_has ps t (ap is_some e) (ap (λ (x : Option ℕ). unwrap_or x 0) e))
 
 -- a state that has a segment
-pub segment_bounded : (s : State) (ps : List Taken) (o : Option ℕ) (out : ℕ → Bool) (served : ℕ → ℕ) → IsTimely s → Placed s ps o out → Clocked s ps → Marked s ps o → Requested s ps o served → IsSegment ps o out → IsBounded s
-segment_bounded s ps o out served timely p c m q g =
-    let are : AreTops (length ps) (top ps) (least ps) = tops ps g.numbered in
+pub segment_bounded : NumbersLieBetween → (s : State) (ps : List Taken) (o : Option ℕ) (out : ℕ → Bool) (served : ℕ → ℕ) → IsTimely s → Placed s ps o out → Clocked s ps → Marked s ps o → Requested s ps o served → IsSegment ps o out → IsBounded s
+segment_bounded numbers s ps o out served timely p c m q g =
+    let are : AreTops (length ps) (top ps) (least ps) = numbers.tops ps g.numbered in
     record {
       fitted = record { rate = c.rate_is; mode = c.mode_is };
       timely = timely;
@@ -201,9 +202,9 @@ segment_bounded s ps o out served timely p c m q g =
       peaks_room = rw q.peaks_are (peaks_room o ps g.numbered g.window);
       places = q.places;
       reach = rw p.next_is (peaks_reach o s.span.top ps s.peaks q.peaks_are p.top_is);
-      top_held = λ t e late. held_top s ps o out t p (g.late t) (sym p.top_is ∙ e) (rw p.next_is at late);
-      held_from = λ q e. let x : (out q ≡ false) × (has ps q ≡ true) = held_facts s ps o out q p e in
-          rw (p.next_is, p.least_is) (not_late ps o out q (g.given q) x.0 x.1, has-ge ps q x.1);
-      held_to = λ q e. let x : (out q ≡ false) × (has ps q ≡ true) = held_facts s ps o out q p e in
-          rw p.top_is (has_some ps q x.1, has-le ps q x.1);
+      top_held = λ t e late. held_top numbers s ps o out t p (g.late t) (sym p.top_is ∙ e) (rw p.next_is at late);
+      held_from = λ q e. let x : (out q ≡ false) × (has ps q ≡ true) = held_facts numbers s ps o out q p e in
+          rw (p.next_is, p.least_is) (not_late ps o out q (g.given q) x.0 x.1, numbers.from ps q x.1);
+      held_to = λ q e. let x : (out q ≡ false) × (has ps q ≡ true) = held_facts numbers s ps o out q p e in
+          rw p.top_is (has_some ps q x.1, numbers.to ps q x.1);
     }

@@ -8,7 +8,6 @@ use Rattle.jitter_timers.specs.Timers.{Timers, Times, HasRoom}
 use Rattle.jitter_model.specs.declared.Settings.{Settings}
 use Rattle.jitter_model.specs.Requests.{Wanted, Asked}
 use Rattle.jitter_model.specs.Turns.{Sight, low, wanted}
-use Rattle.jitter_model.proofs.Falling.{AskedIn, asked_in}
 use Rattle.jitter_core.specs.declared.state.State.{State}
 use Rattle.jitter_core.specs.Served.{served_in, with_served}
 use Rattle.jitter_core.specs.Steps.{IsBounded}
@@ -17,6 +16,8 @@ use Rattle.jitter_core.specs.Turning.{state_sight, state_asked}
 use Rattle.jitter_core.proofs.Leaving.{near}
 use Rattle.jitter_core.proofs.Serving.{served_with, apart}
 use Rattle.jitter_core.proofs.Timers.{pending_above, InRange, in_range, has_room}
+use Rattle.jitter_model.specs.Said.{AskedIn}
+use Rattle.jitter_model.specs.Known.{RepliesTell}
 
 -- what a number's requests were: the same, from the lowest number on
 pub record Keeps (s : Settings) (v w : Sight) (q : ℕ) : Type 0 where
@@ -71,9 +72,9 @@ pub record IsInRange (s : State) (n : ℕ) : Type 0 where
   pub from : low (state_sight s) s.span.next ≤ n
   pub to : n ≤ unwrap_or s.span.top 0 + 1
 
-pub asked_range : (s : State) (a : Asked) → Some a ≡ state_asked s → IsInRange s a.number
-asked_range s a e =
-    let x : AskedIn s.settings (state_sight s) (low (state_sight s) s.span.next) (unwrap_or s.span.top 0 + 2 - low (state_sight s) s.span.next) (Some a) = subst (λ (o : Option Asked). AskedIn s.settings (state_sight s) (low (state_sight s) s.span.next) (unwrap_or s.span.top 0 + 2 - low (state_sight s) s.span.next) o) (sym e) (asked_in s.settings (state_sight s) s.span.next) in
+pub asked_range : RepliesTell → (s : State) (a : Asked) → Some a ≡ state_asked s → IsInRange s a.number
+asked_range replies s a e =
+    let x : AskedIn s.settings (state_sight s) (low (state_sight s) s.span.next) (unwrap_or s.span.top 0 + 2 - low (state_sight s) s.span.next) (Some a) = subst (λ (o : Option Asked). AskedIn s.settings (state_sight s) (low (state_sight s) s.span.next) (unwrap_or s.span.top 0 + 2 - low (state_sight s) s.span.next) o) (sym e) (replies.requests s.settings (state_sight s) s.span.next) in
     record { from = x.fact.0; to = omega (arith, x.fact.0, x.fact.1) }
 
 other_served : (s : State) (n k q : ℕ) → IsBounded s → IsInRange s n → low (state_sight s) s.span.next ≤ q → q ≤ unwrap_or s.span.top 0 + 1 → q ≢ n → served_in (with_served s.served n (k + 1)) q ≡ served_in s.served q

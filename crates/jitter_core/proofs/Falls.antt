@@ -19,6 +19,10 @@ use Rattle.jitter_core.proofs.Judging.{placed_now}
 use Rattle.jitter_core.proofs.Agreeing.{Agree, agrees, turn_is}
 use Rattle.jitter_core.proofs.Serving.{left_same}
 use Rattle.jitter_core.proofs.TurnsKeep.{turn_keeps, does_progress}
+use Rattle.jitter_model.specs.Known.{RunsAreBounded}
+use Rattle.jitter_model.specs.Known.{RepliesTell}
+use Rattle.jitter_model.specs.Known.{NumbersLieBetween}
+use Rattle.jitter_model.specs.Known.{SearchesFindTheLeast}
 
 -- ---- what is left is what the list machine says of each history that the state stands for
 
@@ -29,11 +33,11 @@ left_by_same s v w o a =
     ∙ ap (λ (n : ℕ). n + (if v.told then 0 else 1)) (left_same s v.served w.served (low w o) (w.top + 2 - low w o) (λ q from to. a.served_is q from))
     ∙ ap (λ (b : Bool). replies_left_from s w.served (low w o) (w.top + 2 - low w o) + (if b then 0 else 1)) a.told
 
-outside_is : (s : State) (h : History) → StandsFor s h → is_flushing h ≡ false → left_by s.settings (state_sight s) s.span.next ≡ left_by s.settings (sight s.settings h) (next h)
-outside_is s h st e =
+outside_is : RunsAreBounded → NumbersLieBetween → (s : State) (h : History) → StandsFor s h → is_flushing h ≡ false → left_by s.settings (state_sight s) s.span.next ≡ left_by s.settings (sight s.settings h) (next h)
+outside_is runs numbers s h st e =
     let p : Placed s (accepted h) (next h) (is_out h) = placed_now s h e st.order.placed in
     ap (λ (o : Option ℕ). left_by s.settings (state_sight s) o) p.next_is
-    ∙ left_by_same s.settings (state_sight s) (sight s.settings h) (next h) (agrees s h st e)
+    ∙ left_by_same s.settings (state_sight s) (sight s.settings h) (next h) (agrees runs numbers s h st e)
 
 none_or : (b c : Bool) (x y : ℕ) → b ≡ c → (c ≡ false → x ≡ y) → (if b then 0 else x) ≡ (if c then 0 else y)
 none_or false false x y e same = same refl
@@ -41,9 +45,9 @@ none_or true true x y e same = refl
 none_or false true x y e same = cc
 none_or true false x y e same = cc
 
-pub left_is : (s : State) (h : History) → StandsFor s h → state_left s ≡ left s.settings h
-left_is s h st =
-    none_or s.progress.flushing (is_flushing h) (left_by s.settings (state_sight s) s.span.next) (left_by s.settings (sight s.settings h) (next h)) st.order.flushing_is (outside_is s h st)
+pub left_is : RunsAreBounded → NumbersLieBetween → (s : State) (h : History) → StandsFor s h → state_left s ≡ left s.settings h
+left_is runs numbers s h st =
+    none_or s.progress.flushing (is_flushing h) (left_by s.settings (state_sight s) s.span.next) (left_by s.settings (sight s.settings h) (next h)) st.order.flushing_is (outside_is runs numbers s h st)
 
 -- ---- a turn that isn't quiet leaves fewer
 
@@ -53,16 +57,16 @@ TurnsFall = (s : Settings) (h : History) → is_quiet (turn s h) ≡ false → l
 less_by : (a b x y : ℕ) → a ≡ x → b ≡ y → x < y → a < b
 less_by a b x y e f less = omega arith
 
-falls_by : (old new : State) (h : History) (r : Turn) → TurnsFall → StandsFor old h → r ≡ turn old.settings h → StandsFor new (Turned r ∷ h) → new.settings ≡ old.settings → is_quiet r ≡ false → state_left new < state_left old
-falls_by old new h r falls st is after same loud =
+falls_by : RunsAreBounded → NumbersLieBetween → (old new : State) (h : History) (r : Turn) → TurnsFall → StandsFor old h → r ≡ turn old.settings h → StandsFor new (Turned r ∷ h) → new.settings ≡ old.settings → is_quiet r ≡ false → state_left new < state_left old
+falls_by runs numbers old new h r falls st is after same loud =
     less_by (state_left new) (state_left old) (left old.settings (Turned r ∷ h)) (left old.settings h)
-    (left_is new (Turned r ∷ h) after ∙ ap (λ (x : Settings). left x (Turned r ∷ h)) same)
-    (left_is old h st)
+    (left_is runs numbers new (Turned r ∷ h) after ∙ ap (λ (x : Settings). left x (Turned r ∷ h)) same)
+    (left_is runs numbers old h st)
     (subst (λ (x : Turn). left old.settings (Turned x ∷ h) < left old.settings h) (sym is) (falls old.settings h (ap is_quiet (sym is) ∙ loud)))
 
-pub turn_less : (old new : State) (r : Turn) → TurnsFall → IsReached old → r ≡ state_turn old → TurnDoes old r new → is_quiet r ≡ false → state_left new < state_left old
-turn_less old new r falls reached value does loud =
-    ∥∥₁_elim reached (hlevel props) (λ x. falls_by old new x.0 r falls x.1 (value ∙ turn_is old x.0 x.1) (turn_keeps old new x.0 r x.1 value does) (does_progress old new r does).0 loud)
+pub turn_less : RunsAreBounded → RepliesTell → NumbersLieBetween → SearchesFindTheLeast → (old new : State) (r : Turn) → TurnsFall → IsReached old → r ≡ state_turn old → TurnDoes old r new → is_quiet r ≡ false → state_left new < state_left old
+turn_less runs replies numbers searches old new r falls reached value does loud =
+    ∥∥₁_elim reached (hlevel props) (λ x. falls_by runs numbers old new x.0 r falls x.1 (value ∙ turn_is runs numbers searches old x.0 x.1) (turn_keeps runs replies numbers searches old new x.0 r x.1 value does) (does_progress old new r does).0 loud)
 
 -- ---- a wake lies later than now
 
@@ -78,6 +82,6 @@ later_by old h r later st is =
     subst (λ (t : ℕ). IsLater t (wake_of r)) (sym st.order.time_is)
     (subst (λ (x : Turn). IsLater (now h) (wake_of x)) (sym is) (later old.settings h))
 
-pub turn_later : (old : State) (r : Turn) → WakesLater → IsReached old → r ≡ state_turn old → IsLater old.progress.time (wake_of r)
-turn_later old r later reached value =
-    ∥∥₁_elim reached (later_prop old.progress.time (wake_of r)) (λ x. later_by old x.0 r later x.1 (value ∙ turn_is old x.0 x.1))
+pub turn_later : RunsAreBounded → NumbersLieBetween → SearchesFindTheLeast → (old : State) (r : Turn) → WakesLater → IsReached old → r ≡ state_turn old → IsLater old.progress.time (wake_of r)
+turn_later runs numbers searches old r later reached value =
+    ∥∥₁_elim reached (later_prop old.progress.time (wake_of r)) (λ x. later_by old x.0 r later x.1 (value ∙ turn_is runs numbers searches old x.0 x.1))

@@ -5,12 +5,11 @@ use Rattle.std.proofs.lemmas.Grind.{common_steps}
 use Rattle.jitter_model.specs.Accepted.{Taken, top, least}
 use Rattle.jitter_model.specs.Times.{is_above}
 use Rattle.jitter_model.specs.Requests.{or_else, first_from}
-use Rattle.jitter_model.proofs.Numbered.{IsNumbered}
-use Rattle.jitter_model.proofs.Window.{InWindow}
 use Rattle.jitter_core.specs.declared.peaks.Peak.{Peak}
 use Rattle.jitter_core.specs.Peaks.{peaks, above, above_next, with_peak, stamp_from, ArePeaksBounded, ArePeaksRising}
 use Rattle.jitter_core.specs.Steps.{IsPast}
 use Rattle.jitter_core.proofs.Kept.{IsBelow}
+use Rattle.jitter_model.specs.Numbered.{InWindow, IsNumbered}
 
 -- ---- what is kept after more
 

@@ -11,14 +11,14 @@ use Rattle.jitter_model.specs.Covered.{next, is_out, served, held_count}
 use Rattle.jitter_model.specs.Verdicts.{View, is_late, is_far, is_full, far_verdict, first_fit, view, verdict, number_of}
 use Rattle.jitter_model.specs.Times.{found, held}
 use Rattle.jitter_model.specs.Runs.{Run}
-use Rattle.jitter_model.proofs.Giving.{is_some-found}
-use Rattle.jitter_model.proofs.Window.{out_late}
 use Rattle.jitter_core.specs.declared.state.State.{State}
 use Rattle.jitter_core.specs.Parts.{Placed, Clocked, Marked, Requested}
 use Rattle.jitter_core.specs.Steps.{run_of, state_number}
 use Rattle.jitter_core.specs.Pushing.{state_view, state_verdict}
 use Rattle.jitter_core.specs.Stands.{live, live_next, live_out, live_served, live_aside, Order, StandsFor}
 use Rattle.jitter_core.proofs.Asides.{run_is}
+use Rattle.jitter_model.specs.Known.{RunsAreBounded}
+use Rattle.jitter_model.specs.Known.{NumbersLieBetween}
 
 -- ---- outside a flush
 
@@ -43,16 +43,16 @@ run_now s h o e = run_is s.aside (live_aside h) o.aside_is ∙ live_aside_now h 
 pub number_now : (s : State) (h : History) (a : Arrival) → Placed s (accepted h) (next h) (is_out h) → state_number s a ≡ number_of h a
 number_now s h a p = ap (λ (t : Option ℕ). number_from t a.packet.seq) p.top_is
 
-pub not_out : (s : Settings) (h : History) (n : ℕ) → Run s h → is_late (next h) n ≡ false → is_out h n ≡ false
-not_out s h n r e =
+pub not_out : RunsAreBounded → (s : Settings) (h : History) (n : ℕ) → Run s h → is_late (next h) n ≡ false → is_out h n ≡ false
+not_out runs s h n r e =
     elim (is_out h n) as (λ b. is_out h n ≡ b → is_out h n ≡ false) [
-      | true ↦ λ o. let late : is_late (next h) n ≡ true = out_late s h n r o in cc
+      | true ↦ λ o. let late : is_late (next h) n ≡ true = runs.late s h n r o in cc
       | false ↦ λ o. o
     ] refl
 
 -- what isn't late is held exactly where it was accepted
-pub held_has : (s : State) (h : History) (n : ℕ) → Run s.settings h → Placed s (accepted h) (next h) (is_out h) → is_late (next h) n ≡ false → is_some (map.get s.held n) ≡ has (accepted h) n
-held_has s h n r p e = ap is_some (p.held_are n) ∙ rw (not_out s.settings h n r e) (is_some-found s.settings (accepted h) n)
+pub held_has : RunsAreBounded → NumbersLieBetween → (s : State) (h : History) (n : ℕ) → Run s.settings h → Placed s (accepted h) (next h) (is_out h) → is_late (next h) n ≡ false → is_some (map.get s.held n) ≡ has (accepted h) n
+held_has runs numbers s h n r p e = ap is_some (p.held_are n) ∙ rw (not_out runs s.settings h n r e) (numbers.found_is s.settings (accepted h) n)
 
 -- ---- the verdict
 
@@ -82,18 +82,18 @@ view_now s h a st e p =
 count_now : (s : State) (h : History) → is_flushing h ≡ false → Placed s (accepted h) (next h) (is_out h) → s.span.held ≡ held_count h
 count_now s h e p = p.count_is ∙ rw e refl
 
-verdict_now : (s : State) (h : History) (a : Arrival) → StandsFor s h → is_flushing h ≡ false → state_verdict s a ≡ verdict s.settings h a
-verdict_now s h a st e =
+verdict_now : RunsAreBounded → NumbersLieBetween → (s : State) (h : History) (a : Arrival) → StandsFor s h → is_flushing h ≡ false → state_verdict s a ≡ verdict s.settings h a
+verdict_now runs numbers s h a st e =
     let p : Placed s (accepted h) (next h) (is_out h) = placed_now s h e st.order.placed in
     ap (λ (v : View). first_fit s.settings v a) (view_now s h a st e p)
     ∙ ap (λ (n : ℕ). first_fit s.settings (record (view h a) { among = is_some (map.get s.held (number_of h a)); held = n }) a) (count_now s h e p)
-    ∙ fit_among s.settings (view h a) (is_some (map.get s.held (number_of h a))) (has (accepted h) (number_of h a)) a (held_has s h (number_of h a) st.run p)
+    ∙ fit_among s.settings (view h a) (is_some (map.get s.held (number_of h a))) (has (accepted h) (number_of h a)) a (held_has runs numbers s h (number_of h a) st.run p)
 
-pub verdict_is : (s : State) (h : History) (a : Arrival) → StandsFor s h → state_verdict s a ≡ verdict s.settings h a
-verdict_is s h a st =
+pub verdict_is : RunsAreBounded → NumbersLieBetween → (s : State) (h : History) (a : Arrival) → StandsFor s h → state_verdict s a ≡ verdict s.settings h a
+verdict_is runs numbers s h a st =
     elim (is_flushing h) as (λ b. is_flushing h ≡ b → state_verdict s a ≡ verdict s.settings h a) [
       | true ↦ λ e. fit_flushing s.settings (state_view s a) (view h a) a (st.order.ended_are a.pusher) (st.order.flushing_is ∙ e) e
-      | false ↦ λ e. verdict_now s h a st e
+      | false ↦ λ e. verdict_now runs numbers s h a st e
     ] refl
 
 -- ---- the held packets

@@ -8,8 +8,8 @@ use Rattle.jitter_model.specs.declared.Settings.{Settings}
 use Rattle.jitter_model.specs.declared.Mark.{Mark}
 use Rattle.jitter_model.specs.Accepted.{Taken, top, least}
 use Rattle.jitter_model.specs.Times.{is_above, is_height, heights, is_next_height, height_after, estimate_of, time_of, pts_after, marks, first_pts, expected, expected_below, between}
-use Rattle.jitter_model.proofs.Window.{InWindow}
 use Rattle.jitter_core.specs.Marks.{kept, kept_two, before_another, from_mark, is_next_mark, AreMarksBounded, AreMarksFalling}
+use Rattle.jitter_model.specs.Numbered.{InWindow}
 
 -- ---- expected times by the kept heights
 

@@ -8,9 +8,7 @@ use Rattle.jitter_model.specs.declared.Held.{Held}
 use Rattle.jitter_model.specs.Accepted.{top, least, has, number_from, is_original, opened}
 use Rattle.jitter_model.specs.Verdicts.{is_full, opened_number}
 use Rattle.jitter_model.specs.Times.{found}
-use Rattle.jitter_model.proofs.Giving.{is_some-found}
 use Rattle.jitter_model.specs.Laws.{IsRun}
-use Rattle.jitter_model.proofs.Numbered.{IsOpened, opened_run, run_rest, above_has}
 use Rattle.jitter_core.specs.declared.state.State.{State}
 use Rattle.jitter_core.specs.Asides.{newest_first}
 use Rattle.jitter_core.specs.Steps.{IsTimely, IsBounded, CanAccept, Accepts, state_number}
@@ -18,6 +16,9 @@ use Rattle.jitter_core.specs.Pushing.{IsOpenedBy}
 use Rattle.jitter_core.proofs.Accepting.{placed_accept, clocked_accept, marked_accept, requested_accept}
 use Rattle.jitter_core.proofs.Asides.{run_end}
 use Rattle.jitter_core.proofs.Bounds.{opened_segment, segment_bounded}
+use Rattle.jitter_model.specs.Numbered.{IsOpened}
+use Rattle.jitter_core.proofs.Cases.{run_rest}
+use Rattle.jitter_model.specs.Known.{NumbersLieBetween}
 
 -- ---- what the next packet of a run finds
 
@@ -36,11 +37,11 @@ first_same done d a x y =
     let above : x.first + length done < opened_number (d ∷ done) a = omega (arith, y.above, ap (λ (o : Option ℕ). unwrap_or o 0) x.top_is) in
     omega arith
 
-room_after : (done : List Arrival) (a : Arrival) → IsRun (a ∷ done) → length done ≤ 4 → is_full (top (opened done)) (least (opened done)) None (opened_number done a) ≡ false
-room_after [] a r few = refl
-room_after (d ∷ done) a r few =
-    let x : IsOpened done d = opened_run done d (run_rest a (d ∷ done) r) in
-    let y : IsOpened (d ∷ done) a = opened_run (d ∷ done) a r in
+room_after : NumbersLieBetween → (done : List Arrival) (a : Arrival) → IsRun (a ∷ done) → length done ≤ 4 → is_full (top (opened done)) (least (opened done)) None (opened_number done a) ≡ false
+room_after numbers [] a r few = refl
+room_after numbers (d ∷ done) a r few =
+    let x : IsOpened done d = numbers.opened_is done d (run_rest a (d ∷ done) r) in
+    let y : IsOpened (d ∷ done) a = numbers.opened_is (d ∷ done) a r in
     let same : y.first ≡ x.first = first_same done d a x y in
     not_full (top (opened (d ∷ done))) (least (opened (d ∷ done))) x.first (length done) (opened_number (d ∷ done) a) x.top_is x.least_is (omega arith) (omega (arith, y.number_is, same))
 
@@ -48,20 +49,20 @@ run_original : (done : List Arrival) (a : Arrival) → IsRun (a ∷ done) → is
 run_original [] a r = r.1
 run_original (d ∷ done) a r = r.1
 
-pub can_accept : (s : State) (done : List Arrival) (a : Arrival) → IsOpenedBy s done → IsRun (a ∷ done) → length done ≤ 4 → CanAccept s a (state_number s a)
-can_accept s done a o r few =
+pub can_accept : NumbersLieBetween → (s : State) (done : List Arrival) (a : Arrival) → IsOpenedBy s done → IsRun (a ∷ done) → length done ≤ 4 → CanAccept s a (state_number s a)
+can_accept numbers s done a o r few =
     let number : state_number s a ≡ opened_number done a = ap (λ (t : Option ℕ). number_from t a.packet.seq) o.placed.top_is in
-    let above : unwrap_or (top (opened done)) 0 < opened_number done a = (opened_run done a r).above in
-    let absent : has (opened done) (opened_number done a) ≡ false = above_has (opened done) (opened_number done a) above in
+    let above : unwrap_or (top (opened done)) 0 < opened_number done a = (numbers.opened_is done a r).above in
+    let absent : has (opened done) (opened_number done a) ≡ false = numbers.above (opened done) (opened_number done a) above in
     record {
       late = rw o.placed.next_is refl;
-      full = rw (number, o.placed.next_is, o.placed.top_is, o.placed.least_is) (room_after done a r few);
-      fresh = ap (λ (n : ℕ). map.get s.held n) number ∙ o.placed.held_are (opened_number done a) ∙ none_of (found s.settings (opened done) (opened_number done a)) (is_some-found s.settings (opened done) (opened_number done a) ∙ absent);
+      full = rw (number, o.placed.next_is, o.placed.top_is, o.placed.least_is) (room_after numbers done a r few);
+      fresh = ap (λ (n : ℕ). map.get s.held n) number ∙ o.placed.held_are (opened_number done a) ∙ none_of (found s.settings (opened done) (opened_number done a)) (numbers.found_is s.settings (opened done) (opened_number done a) ∙ absent);
       original = λ _. run_original done a r;
     }
 
-pub opened_bounded : (s : State) (done : List Arrival) → IsTimely s → IsOpenedBy s done → IsRun done → length done ≤ 5 → IsBounded s
-opened_bounded s done timely o r few = segment_bounded s (opened done) None (λ q. false) (λ q. 0) timely o.placed o.clocked o.marked o.requested (opened_segment done r few)
+pub opened_bounded : NumbersLieBetween → (s : State) (done : List Arrival) → IsTimely s → IsOpenedBy s done → IsRun done → length done ≤ 5 → IsBounded s
+opened_bounded numbers s done timely o r few = segment_bounded numbers s (opened done) None (λ q. false) (λ q. 0) timely o.placed o.clocked o.marked o.requested (opened_segment numbers done r few)
 
 -- ---- one step
 

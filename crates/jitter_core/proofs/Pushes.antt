@@ -13,8 +13,6 @@ use Rattle.jitter_model.specs.Accepted.{Taken, joined, opened, run_after, aside,
 use Rattle.jitter_model.specs.Covered.{next, is_out, opens, served}
 use Rattle.jitter_model.specs.Verdicts.{view, verdict, number_of, opened_number, told_number, reply_number, aside_dropped, back_of, pushed}
 use Rattle.jitter_model.specs.Runs.{Run, IsPush, IsInRange}
-use Rattle.jitter_model.proofs.Judged.{IsAccepted, IsAside, IsRestart, says}
-use Rattle.jitter_model.proofs.Numbered.{joined_five, joined_follows}
 use Rattle.jitter_core.specs.declared.state.State.{State}
 use Rattle.jitter_core.specs.Asides.{in_order}
 use Rattle.jitter_core.specs.Parts.{Placed, Clocked, Marked, Requested}
@@ -24,6 +22,11 @@ use Rattle.jitter_core.specs.Stands.{live, live_next, live_out, live_served, liv
 use Rattle.jitter_core.proofs.Accepting.{placed_accept, clocked_accept, marked_accept, requested_accept}
 use Rattle.jitter_core.proofs.Asides.{run_is}
 use Rattle.jitter_core.proofs.Judging.{placed_now, clocked_now, marked_now, requested_now, run_now, number_now, not_out, verdict_is}
+use Rattle.jitter_model.specs.Said.{IsAccepted, IsAside, IsRestart}
+use Rattle.jitter_core.proofs.Cases.{joined_five, joined_follows}
+use Rattle.jitter_model.specs.Known.{RunsAreBounded}
+use Rattle.jitter_model.specs.Known.{RepliesTell}
+use Rattle.jitter_model.specs.Known.{NumbersLieBetween}
 
 -- the parts of a segment
 pub record HasSegment (s : State) (ps : List Taken) (o : Option ℕ) (out : ℕ → Bool) (served : ℕ → ℕ) : Type 0 where
@@ -84,49 +87,49 @@ assemble old new h a p st r is g aside_is =
 
 -- ---- while a flush runs
 
-flushing_leaves : (old new : State) (h : History) (a : Arrival) (v : Verdict) → v ≡ verdict old.settings h a → is_flushing h ≡ true → SegmentAfter old a v new → LeavesSegment old new
-flushing_leaves old new h a Accepted e f s = let x : IsAccepted old.settings (view h a) a = says old.settings h a Accepted e in absurd (let bad : is_flushing h ≡ false = x.flushing in cc)
-flushing_leaves old new h a (Restart d) e f s = let x : IsRestart old.settings (view h a) a d = says old.settings h a (Restart d) e in absurd (let bad : is_flushing h ≡ false = x.flushing in cc)
-flushing_leaves old new h a Aside e f s = s
-flushing_leaves old new h a Late e f s = s
-flushing_leaves old new h a Duplicate e f s = s
-flushing_leaves old new h a Full e f s = s
-flushing_leaves old new h a Stray e f s = s
-flushing_leaves old new h a Flushing e f s = s
-flushing_leaves old new h a Ended e f s = s
+flushing_leaves : RepliesTell → (old new : State) (h : History) (a : Arrival) (v : Verdict) → v ≡ verdict old.settings h a → is_flushing h ≡ true → SegmentAfter old a v new → LeavesSegment old new
+flushing_leaves replies old new h a Accepted e f s = let x : IsAccepted old.settings (view h a) a = replies.verdicts old.settings h a Accepted e in absurd (let bad : is_flushing h ≡ false = x.flushing in cc)
+flushing_leaves replies old new h a (Restart d) e f s = let x : IsRestart old.settings (view h a) a d = replies.verdicts old.settings h a (Restart d) e in absurd (let bad : is_flushing h ≡ false = x.flushing in cc)
+flushing_leaves replies old new h a Aside e f s = s
+flushing_leaves replies old new h a Late e f s = s
+flushing_leaves replies old new h a Duplicate e f s = s
+flushing_leaves replies old new h a Full e f s = s
+flushing_leaves replies old new h a Stray e f s = s
+flushing_leaves replies old new h a Flushing e f s = s
+flushing_leaves replies old new h a Ended e f s = s
 
-flushing_aside : (old : State) (h : History) (a : Arrival) (v : Verdict) → v ≡ verdict old.settings h a → is_flushing h ≡ true → run_of old ≡ [] → run_after (run_of old) a v ≡ []
-flushing_aside old h a Aside e f r = let x : IsAside old.settings (view h a) a = says old.settings h a Aside e in absurd (let bad : is_flushing h ≡ false = x.flushing in cc)
-flushing_aside old h a Accepted e f r = let x : IsAccepted old.settings (view h a) a = says old.settings h a Accepted e in absurd (let bad : is_flushing h ≡ false = x.flushing in cc)
-flushing_aside old h a (Restart d) e f r = refl
-flushing_aside old h a Late e f r = let x = says old.settings h a Late e in absurd (let bad : is_flushing h ≡ false = x.0.flushing in cc)
-flushing_aside old h a Duplicate e f r = let x = says old.settings h a Duplicate e in absurd (let bad : is_flushing h ≡ false = x.0.flushing in cc)
-flushing_aside old h a Full e f r = let x = says old.settings h a Full e in absurd (let bad : is_flushing h ≡ false = x.0.flushing in cc)
-flushing_aside old h a Stray e f r = r
-flushing_aside old h a Flushing e f r = r
-flushing_aside old h a Ended e f r = r
+flushing_aside : RepliesTell → (old : State) (h : History) (a : Arrival) (v : Verdict) → v ≡ verdict old.settings h a → is_flushing h ≡ true → run_of old ≡ [] → run_after (run_of old) a v ≡ []
+flushing_aside replies old h a Aside e f r = let x : IsAside old.settings (view h a) a = replies.verdicts old.settings h a Aside e in absurd (let bad : is_flushing h ≡ false = x.flushing in cc)
+flushing_aside replies old h a Accepted e f r = let x : IsAccepted old.settings (view h a) a = replies.verdicts old.settings h a Accepted e in absurd (let bad : is_flushing h ≡ false = x.flushing in cc)
+flushing_aside replies old h a (Restart d) e f r = refl
+flushing_aside replies old h a Late e f r = let x = replies.verdicts old.settings h a Late e in absurd (let bad : is_flushing h ≡ false = x.0.flushing in cc)
+flushing_aside replies old h a Duplicate e f r = let x = replies.verdicts old.settings h a Duplicate e in absurd (let bad : is_flushing h ≡ false = x.0.flushing in cc)
+flushing_aside replies old h a Full e f r = let x = replies.verdicts old.settings h a Full e in absurd (let bad : is_flushing h ≡ false = x.0.flushing in cc)
+flushing_aside replies old h a Stray e f r = r
+flushing_aside replies old h a Flushing e f r = r
+flushing_aside replies old h a Ended e f r = r
 
-flushing_told : (s : Settings) (h : History) (a : Arrival) (v : Verdict) (n m i j : ℕ) → v ≡ verdict s h a → is_flushing h ≡ true → told_number v n i ≡ told_number v m j
-flushing_told s h a Aside n m i j e f = let x : IsAside s (view h a) a = says s h a Aside e in absurd (let bad : is_flushing h ≡ false = x.flushing in cc)
-flushing_told s h a Accepted n m i j e f = let x : IsAccepted s (view h a) a = says s h a Accepted e in absurd (let bad : is_flushing h ≡ false = x.flushing in cc)
-flushing_told s h a (Restart d) n m i j e f = let x : IsRestart s (view h a) a d = says s h a (Restart d) e in absurd (let bad : is_flushing h ≡ false = x.flushing in cc)
-flushing_told s h a Late n m i j e f = let x = says s h a Late e in absurd (let bad : is_flushing h ≡ false = x.0.flushing in cc)
-flushing_told s h a Duplicate n m i j e f = let x = says s h a Duplicate e in absurd (let bad : is_flushing h ≡ false = x.0.flushing in cc)
-flushing_told s h a Full n m i j e f = let x = says s h a Full e in absurd (let bad : is_flushing h ≡ false = x.0.flushing in cc)
-flushing_told s h a Stray n m i j e f = refl
-flushing_told s h a Flushing n m i j e f = refl
-flushing_told s h a Ended n m i j e f = refl
+flushing_told : RepliesTell → (s : Settings) (h : History) (a : Arrival) (v : Verdict) (n m i j : ℕ) → v ≡ verdict s h a → is_flushing h ≡ true → told_number v n i ≡ told_number v m j
+flushing_told replies s h a Aside n m i j e f = let x : IsAside s (view h a) a = replies.verdicts s h a Aside e in absurd (let bad : is_flushing h ≡ false = x.flushing in cc)
+flushing_told replies s h a Accepted n m i j e f = let x : IsAccepted s (view h a) a = replies.verdicts s h a Accepted e in absurd (let bad : is_flushing h ≡ false = x.flushing in cc)
+flushing_told replies s h a (Restart d) n m i j e f = let x : IsRestart s (view h a) a d = replies.verdicts s h a (Restart d) e in absurd (let bad : is_flushing h ≡ false = x.flushing in cc)
+flushing_told replies s h a Late n m i j e f = let x = replies.verdicts s h a Late e in absurd (let bad : is_flushing h ≡ false = x.0.flushing in cc)
+flushing_told replies s h a Duplicate n m i j e f = let x = replies.verdicts s h a Duplicate e in absurd (let bad : is_flushing h ≡ false = x.0.flushing in cc)
+flushing_told replies s h a Full n m i j e f = let x = replies.verdicts s h a Full e in absurd (let bad : is_flushing h ≡ false = x.0.flushing in cc)
+flushing_told replies s h a Stray n m i j e f = refl
+flushing_told replies s h a Flushing n m i j e f = refl
+flushing_told replies s h a Ended n m i j e f = refl
 
-flushing_dropped : (s : Settings) (h : History) (a : Arrival) (v : Verdict) (xs ys : List Arrival) → v ≡ verdict s h a → is_flushing h ≡ true → aside_dropped xs a v ≡ aside_dropped ys a v
-flushing_dropped s h a Aside xs ys e f = let x : IsAside s (view h a) a = says s h a Aside e in absurd (let bad : is_flushing h ≡ false = x.flushing in cc)
-flushing_dropped s h a Accepted xs ys e f = let x : IsAccepted s (view h a) a = says s h a Accepted e in absurd (let bad : is_flushing h ≡ false = x.flushing in cc)
-flushing_dropped s h a (Restart d) xs ys e f = refl
-flushing_dropped s h a Late xs ys e f = let x = says s h a Late e in absurd (let bad : is_flushing h ≡ false = x.0.flushing in cc)
-flushing_dropped s h a Duplicate xs ys e f = let x = says s h a Duplicate e in absurd (let bad : is_flushing h ≡ false = x.0.flushing in cc)
-flushing_dropped s h a Full xs ys e f = let x = says s h a Full e in absurd (let bad : is_flushing h ≡ false = x.0.flushing in cc)
-flushing_dropped s h a Stray xs ys e f = refl
-flushing_dropped s h a Flushing xs ys e f = refl
-flushing_dropped s h a Ended xs ys e f = refl
+flushing_dropped : RepliesTell → (s : Settings) (h : History) (a : Arrival) (v : Verdict) (xs ys : List Arrival) → v ≡ verdict s h a → is_flushing h ≡ true → aside_dropped xs a v ≡ aside_dropped ys a v
+flushing_dropped replies s h a Aside xs ys e f = let x : IsAside s (view h a) a = replies.verdicts s h a Aside e in absurd (let bad : is_flushing h ≡ false = x.flushing in cc)
+flushing_dropped replies s h a Accepted xs ys e f = let x : IsAccepted s (view h a) a = replies.verdicts s h a Accepted e in absurd (let bad : is_flushing h ≡ false = x.flushing in cc)
+flushing_dropped replies s h a (Restart d) xs ys e f = refl
+flushing_dropped replies s h a Late xs ys e f = let x = replies.verdicts s h a Late e in absurd (let bad : is_flushing h ≡ false = x.0.flushing in cc)
+flushing_dropped replies s h a Duplicate xs ys e f = let x = replies.verdicts s h a Duplicate e in absurd (let bad : is_flushing h ≡ false = x.0.flushing in cc)
+flushing_dropped replies s h a Full xs ys e f = let x = replies.verdicts s h a Full e in absurd (let bad : is_flushing h ≡ false = x.0.flushing in cc)
+flushing_dropped replies s h a Stray xs ys e f = refl
+flushing_dropped replies s h a Flushing xs ys e f = refl
+flushing_dropped replies s h a Ended xs ys e f = refl
 
 run_in_flush : (s : State) (h : History) → Order s h → is_flushing h ≡ true → run_of s ≡ []
 run_in_flush s h o e = run_is s.aside (live_aside h) o.aside_is ∙ rw e refl
@@ -136,11 +139,11 @@ flushing_segment new h a p e g =
     subst (λ (b : Bool). HasSegment new (if b then [] else taken_after (accepted h) (aside h) a p.verdict) (if b then None else if opens p.verdict then None else next h) (λ n. not b && (not (opens p.verdict) && is_out h n)) (λ n. if b then 0 else if opens p.verdict then 0 else served h n)) (sym e)
     (subst (λ (b : Bool). HasSegment new (if b then [] else accepted h) (if b then None else next h) (λ n. not b && is_out h n) (λ n. if b then 0 else served h n)) e g)
 
-push_in_flush : (old new : State) (h : History) (a : Arrival) (p : Pushed) → StandsFor old h → PushStep old new a p → IsPush old.settings h a p.verdict p.number p.aside_dropped → is_flushing h ≡ true → StandsFor new (entry a p h)
-push_in_flush old new h a p st r is e =
+push_in_flush : RepliesTell → (old new : State) (h : History) (a : Arrival) (p : Pushed) → StandsFor old h → PushStep old new a p → IsPush old.settings h a p.verdict p.number p.aside_dropped → is_flushing h ≡ true → StandsFor new (entry a p h)
+push_in_flush replies old new h a p st r is e =
     assemble old new h a p st r is
-    (flushing_segment new h a p e (leaves old new (live h) (live_next h) (live_out h) (live_served h) r.settings (flushing_leaves old new h a p.verdict is.verdict_is e r.segment) (segment_of old h st)))
-    (rw e (r.aside ∙ ap in_order (flushing_aside old h a p.verdict is.verdict_is e (run_in_flush old h st.order e))))
+    (flushing_segment new h a p e (leaves old new (live h) (live_next h) (live_out h) (live_served h) r.settings (flushing_leaves replies old new h a p.verdict is.verdict_is e r.segment) (segment_of old h st)))
+    (rw e (r.aside ∙ ap in_order (flushing_aside replies old h a p.verdict is.verdict_is e (run_in_flush old h st.order e))))
 
 -- ---- outside a flush
 
@@ -154,81 +157,81 @@ record After (new : State) (h : History) (a : Arrival) (v : Verdict) : Type 0 wh
 left_alone : (old new : State) (h : History) → new.settings ≡ old.settings → LeavesSegment old new → HasSegment old (accepted h) (next h) (is_out h) (served h) → HasSegment new (accepted h) (next h) (is_out h) (served h)
 left_alone old new h same l g = leaves old new (accepted h) (next h) (is_out h) (served h) same l g
 
-accepted_after : (old new : State) (h : History) (a : Arrival) → Run old.settings h → new.settings ≡ old.settings → Accepted ≡ verdict old.settings h a → Accepts old new a (state_number old a) → HasSegment old (accepted h) (next h) (is_out h) (served h) → HasSegment new (with_taken (accepted h) a) (next h) (is_out h) (served h)
-accepted_after old new h a r same e acc g =
-    let x : IsAccepted old.settings (view h a) a = says old.settings h a Accepted e in
+accepted_after : RunsAreBounded → RepliesTell → (old new : State) (h : History) (a : Arrival) → Run old.settings h → new.settings ≡ old.settings → Accepted ≡ verdict old.settings h a → Accepts old new a (state_number old a) → HasSegment old (accepted h) (next h) (is_out h) (served h) → HasSegment new (with_taken (accepted h) a) (next h) (is_out h) (served h)
+accepted_after runs replies old new h a r same e acc g =
+    let x : IsAccepted old.settings (view h a) a = replies.verdicts old.settings h a Accepted e in
     record {
-      placed = placed_accept old new (accepted h) (next h) (is_out h) a same g.placed g.clocked g.marked acc (not_out old.settings h (number_of h a) r x.late);
+      placed = placed_accept old new (accepted h) (next h) (is_out h) a same g.placed g.clocked g.marked acc (not_out runs old.settings h (number_of h a) r x.late);
       clocked = clocked_accept old new (accepted h) (next h) a same g.placed.top_is g.clocked g.marked acc;
       marked = marked_accept old new (accepted h) (next h) a same g.placed.next_is g.placed.top_is g.clocked g.marked acc;
       requested = requested_accept old new (accepted h) (next h) (served h) a g.placed.next_is g.placed.top_is g.requested acc;
     }
 
-restarted_after : (old new : State) (h : History) (a : Arrival) (d : ℕ) → Restart d ≡ verdict old.settings h a → run_of old ≡ aside h → IsOpenedBy new (a ∷ run_of old) → HasSegment new (opened (joined (aside h) a)) None (λ q. false) (λ q. 0)
-restarted_after old new h a d e run o =
-    let x : IsRestart old.settings (view h a) a d = says old.settings h a (Restart d) e in
+restarted_after : RepliesTell → (old new : State) (h : History) (a : Arrival) (d : ℕ) → Restart d ≡ verdict old.settings h a → run_of old ≡ aside h → IsOpenedBy new (a ∷ run_of old) → HasSegment new (opened (joined (aside h) a)) None (λ q. false) (λ q. 0)
+restarted_after replies old new h a d e run o =
+    let x : IsRestart old.settings (view h a) a d = replies.verdicts old.settings h a (Restart d) e in
     let all : a ∷ run_of old ≡ joined (aside h) a = ap (λ (run : List Arrival). a ∷ run) run ∙ sym (joined_follows (aside h) a (joined_five (aside h) a x.run)) in
     opens_segment new (joined (aside h) a) (subst (λ (run : List Arrival). IsOpenedBy new run) all o)
 
-segment_after : (old new : State) (h : History) (a : Arrival) (v : Verdict) → Run old.settings h → new.settings ≡ old.settings → v ≡ verdict old.settings h a → run_of old ≡ aside h → SegmentAfter old a v new → HasSegment old (accepted h) (next h) (is_out h) (served h) → After new h a v
-segment_after old new h a Accepted r same e run s g = record { fact = accepted_after old new h a r same e s g }
-segment_after old new h a (Restart d) r same e run s g = record { fact = restarted_after old new h a d e run s }
-segment_after old new h a Aside r same e run s g = record { fact = left_alone old new h same s g }
-segment_after old new h a Late r same e run s g = record { fact = left_alone old new h same s g }
-segment_after old new h a Duplicate r same e run s g = record { fact = left_alone old new h same s g }
-segment_after old new h a Full r same e run s g = record { fact = left_alone old new h same s g }
-segment_after old new h a Stray r same e run s g = record { fact = left_alone old new h same s g }
-segment_after old new h a Flushing r same e run s g = record { fact = left_alone old new h same s g }
-segment_after old new h a Ended r same e run s g = record { fact = left_alone old new h same s g }
+segment_after : RunsAreBounded → RepliesTell → (old new : State) (h : History) (a : Arrival) (v : Verdict) → Run old.settings h → new.settings ≡ old.settings → v ≡ verdict old.settings h a → run_of old ≡ aside h → SegmentAfter old a v new → HasSegment old (accepted h) (next h) (is_out h) (served h) → After new h a v
+segment_after runs replies old new h a Accepted r same e run s g = record { fact = accepted_after runs replies old new h a r same e s g }
+segment_after runs replies old new h a (Restart d) r same e run s g = record { fact = restarted_after replies old new h a d e run s }
+segment_after runs replies old new h a Aside r same e run s g = record { fact = left_alone old new h same s g }
+segment_after runs replies old new h a Late r same e run s g = record { fact = left_alone old new h same s g }
+segment_after runs replies old new h a Duplicate r same e run s g = record { fact = left_alone old new h same s g }
+segment_after runs replies old new h a Full r same e run s g = record { fact = left_alone old new h same s g }
+segment_after runs replies old new h a Stray r same e run s g = record { fact = left_alone old new h same s g }
+segment_after runs replies old new h a Flushing r same e run s g = record { fact = left_alone old new h same s g }
+segment_after runs replies old new h a Ended r same e run s g = record { fact = left_alone old new h same s g }
 
 open_segment : (new : State) (h : History) (a : Arrival) (p : Pushed) → is_flushing h ≡ false → IsAfter new h a p.verdict → HasSegment new (live (entry a p h)) (live_next (entry a p h)) (live_out (entry a p h)) (live_served (entry a p h))
 open_segment new h a p e g =
     subst (λ (b : Bool). HasSegment new (if b then [] else taken_after (accepted h) (aside h) a p.verdict) (if b then None else if opens p.verdict then None else next h) (λ n. not b && (not (opens p.verdict) && is_out h n)) (λ n. if b then 0 else if opens p.verdict then 0 else served h n)) (sym e) g
 
-push_outside : (old new : State) (h : History) (a : Arrival) (p : Pushed) → StandsFor old h → PushStep old new a p → IsPush old.settings h a p.verdict p.number p.aside_dropped → is_flushing h ≡ false → StandsFor new (entry a p h)
-push_outside old new h a p st r is e =
+push_outside : RunsAreBounded → RepliesTell → (old new : State) (h : History) (a : Arrival) (p : Pushed) → StandsFor old h → PushStep old new a p → IsPush old.settings h a p.verdict p.number p.aside_dropped → is_flushing h ≡ false → StandsFor new (entry a p h)
+push_outside runs replies old new h a p st r is e =
     let run : run_of old ≡ aside h = run_now old h st.order e in
     let g : HasSegment old (accepted h) (next h) (is_out h) (served h) = segment_now old h e st in
     assemble old new h a p st r is
-    (open_segment new h a p e (segment_after old new h a p.verdict st.run r.settings is.verdict_is run r.segment g).fact)
+    (open_segment new h a p e (segment_after runs replies old new h a p.verdict st.run r.settings is.verdict_is run r.segment g).fact)
     (rw e (r.aside ∙ ap (λ (xs : List Arrival). in_order (run_after xs a p.verdict)) run))
 
 -- ---- all pushes
 
 -- the parts of the answer that the history defines
-number_told : (old : State) (h : History) (a : Arrival) (v : Verdict) → StandsFor old h → v ≡ verdict old.settings h a → told_number v (state_number old a) (opened_number (run_of old) a) ≡ reply_number h a v
-number_told old h a v st e =
+number_told : RepliesTell → (old : State) (h : History) (a : Arrival) (v : Verdict) → StandsFor old h → v ≡ verdict old.settings h a → told_number v (state_number old a) (opened_number (run_of old) a) ≡ reply_number h a v
+number_told replies old h a v st e =
     elim (is_flushing h) as (λ b. is_flushing h ≡ b → told_number v (state_number old a) (opened_number (run_of old) a) ≡ reply_number h a v) [
-      | true ↦ λ f. flushing_told old.settings h a v _ _ _ _ e f
+      | true ↦ λ f. flushing_told replies old.settings h a v _ _ _ _ e f
       | false ↦ λ f. ap (λ (n : ℕ). told_number v n (opened_number (run_of old) a)) (number_now old h a (placed_now old h f st.order.placed))
           ∙ ap (λ (run : List Arrival). told_number v (number_of h a) (opened_number run a)) (run_now old h st.order f)
     ] refl
 
-dropped_told : (old : State) (h : History) (a : Arrival) (v : Verdict) → StandsFor old h → v ≡ verdict old.settings h a → aside_dropped (run_of old) a v ≡ aside_dropped (aside h) a v
-dropped_told old h a v st e =
+dropped_told : RepliesTell → (old : State) (h : History) (a : Arrival) (v : Verdict) → StandsFor old h → v ≡ verdict old.settings h a → aside_dropped (run_of old) a v ≡ aside_dropped (aside h) a v
+dropped_told replies old h a v st e =
     elim (is_flushing h) as (λ b. is_flushing h ≡ b → aside_dropped (run_of old) a v ≡ aside_dropped (aside h) a v) [
-      | true ↦ λ f. flushing_dropped old.settings h a v _ _ e f
+      | true ↦ λ f. flushing_dropped replies old.settings h a v _ _ e f
       | false ↦ λ f. ap (λ (run : List Arrival). aside_dropped run a v) (run_now old h st.order f)
     ] refl
 
-push_entry : (old new : State) (h : History) (a : Arrival) (p : Pushed) → StandsFor old h → PushStep old new a p → old.progress.pushes < 2147483648 → IsInRange a → is_pusher old.settings.pushers a.pusher ≡ true → IsPush old.settings h a p.verdict p.number p.aside_dropped
-push_entry old new h a p st r few range pusher =
-    let is : p.verdict ≡ verdict old.settings h a = r.verdict ∙ verdict_is old h a st in
+push_entry : RunsAreBounded → RepliesTell → NumbersLieBetween → (old new : State) (h : History) (a : Arrival) (p : Pushed) → StandsFor old h → PushStep old new a p → old.progress.pushes < 2147483648 → IsInRange a → is_pusher old.settings.pushers a.pusher ≡ true → IsPush old.settings h a p.verdict p.number p.aside_dropped
+push_entry runs replies numbers old new h a p st r few range pusher =
+    let is : p.verdict ≡ verdict old.settings h a = r.verdict ∙ verdict_is runs numbers old h a st in
     record {
       pusher = pusher;
       few = rw (← st.order.pushes_are) few;
       in_range = range;
       verdict_is = is;
-      number_is = r.number ∙ number_told old h a p.verdict st is;
-      dropped_is = r.dropped ∙ dropped_told old h a p.verdict st is;
+      number_is = r.number ∙ number_told replies old h a p.verdict st is;
+      dropped_is = r.dropped ∙ dropped_told replies old h a p.verdict st is;
     }
 
-pub push_keeps : (old new : State) (h : History) (a : Arrival) (p : Pushed) → StandsFor old h → PushStep old new a p → old.progress.pushes < 2147483648 → IsInRange a → is_pusher old.settings.pushers a.pusher ≡ true → StandsFor new (entry a p h)
-push_keeps old new h a p st r few range pusher =
-    let is : IsPush old.settings h a p.verdict p.number p.aside_dropped = push_entry old new h a p st r few range pusher in
+pub push_keeps : RunsAreBounded → RepliesTell → NumbersLieBetween → (old new : State) (h : History) (a : Arrival) (p : Pushed) → StandsFor old h → PushStep old new a p → old.progress.pushes < 2147483648 → IsInRange a → is_pusher old.settings.pushers a.pusher ≡ true → StandsFor new (entry a p h)
+push_keeps runs replies numbers old new h a p st r few range pusher =
+    let is : IsPush old.settings h a p.verdict p.number p.aside_dropped = push_entry runs replies numbers old new h a p st r few range pusher in
     elim (is_flushing h) as (λ b. is_flushing h ≡ b → StandsFor new (entry a p h)) [
-      | true ↦ λ e. push_in_flush old new h a p st r is e
-      | false ↦ λ e. push_outside old new h a p st r is e
+      | true ↦ λ e. push_in_flush replies old new h a p st r is e
+      | false ↦ λ e. push_outside runs replies old new h a p st r is e
     ] refl
 
 same_answer : (p : Pushed) (n d : ℕ) (b : Option Packet) → p.number ≡ n → p.back ≡ b → p.aside_dropped ≡ d → p ≡ record { verdict = p.verdict; number = n; back = b; aside_dropped = d }
@@ -237,10 +240,10 @@ same_answer p n d b number back dropped =
     ∙ ap (λ (x : Option Packet). record p { number = n; back = x }) back
     ∙ ap (λ (x : ℕ). record p { number = n; back = b; aside_dropped = x }) dropped
 
-pub push_value : (old new : State) (h : History) (a : Arrival) (p : Pushed) → StandsFor old h → PushStep old new a p → p ≡ pushed old.settings h a
-push_value old new h a p st r =
-    let is : p.verdict ≡ verdict old.settings h a = r.verdict ∙ verdict_is old h a st in
-    let number : p.number ≡ reply_number h a p.verdict = r.number ∙ number_told old h a p.verdict st is in
-    let dropped : p.aside_dropped ≡ aside_dropped (aside h) a p.verdict = r.dropped ∙ dropped_told old h a p.verdict st is in
+pub push_value : RunsAreBounded → RepliesTell → NumbersLieBetween → (old new : State) (h : History) (a : Arrival) (p : Pushed) → StandsFor old h → PushStep old new a p → p ≡ pushed old.settings h a
+push_value runs replies numbers old new h a p st r =
+    let is : p.verdict ≡ verdict old.settings h a = r.verdict ∙ verdict_is runs numbers old h a st in
+    let number : p.number ≡ reply_number h a p.verdict = r.number ∙ number_told replies old h a p.verdict st is in
+    let dropped : p.aside_dropped ≡ aside_dropped (aside h) a p.verdict = r.dropped ∙ dropped_told replies old h a p.verdict st is in
     let all : p ≡ record { verdict = p.verdict; number = reply_number h a p.verdict; back = back_of p.verdict a.packet; aside_dropped = aside_dropped (aside h) a p.verdict } = same_answer p (reply_number h a p.verdict) (aside_dropped (aside h) a p.verdict) (back_of p.verdict a.packet) number r.back dropped in
     all ∙ ap (λ (v : Verdict). record { verdict = v; number = reply_number h a v; back = back_of v a.packet; aside_dropped = aside_dropped (aside h) a v }) is

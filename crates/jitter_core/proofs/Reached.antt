@@ -11,7 +11,6 @@ use Rattle.jitter_model.specs.History.{History}
 use Rattle.jitter_model.specs.Accepted.{aside}
 use Rattle.jitter_model.specs.Runs.{IsValid}
 use Rattle.jitter_model.specs.Laws.{IsRun, IsAsideRun}
-use Rattle.jitter_model.proofs.Numbered.{aside_run, run_or_none, valid_of, latency_most}
 use Rattle.jitter_core.specs.declared.state.State.{State}
 use Rattle.jitter_core.specs.Asides.{in_order}
 use Rattle.jitter_core.specs.Served.{served_in}
@@ -19,29 +18,33 @@ use Rattle.jitter_core.specs.Steps.{IsTimely, IsBounded, run_of}
 use Rattle.jitter_core.specs.Stands.{live, live_next, live_out, live_served, live_aside, StandsFor, IsReached}
 use Rattle.jitter_core.proofs.Asides.{run_is, in_order_is}
 use Rattle.jitter_core.proofs.Bounds.{segment, segment_bounded}
+use Rattle.jitter_core.proofs.Cases.{run_or_none}
+use Rattle.jitter_model.specs.Known.{RunsAreBounded}
+use Rattle.jitter_model.specs.Known.{RepliesTell}
+use Rattle.jitter_model.specs.Known.{NumbersLieBetween}
 
-timely : (s : State) (h : History) → StandsFor s h → IsTimely s
-timely s h st =
-    let v : IsValid s.settings = valid_of s.settings h st.run in
-    record { latency = rw st.order.latency_is (latency_most s.settings h st.run); delay = v.rtx_delay_to; retry_from = omega (arith, v.rtx_retry_from); retry_to = v.rtx_retry_to }
+timely : RunsAreBounded → (s : State) (h : History) → StandsFor s h → IsTimely s
+timely runs s h st =
+    let v : IsValid s.settings = runs.settings s.settings h st.run in
+    record { latency = rw st.order.latency_is (runs.latency_is s.settings h st.run); delay = v.rtx_delay_to; retry_from = omega (arith, v.rtx_retry_from); retry_to = v.rtx_retry_to }
 
-pub bounded : (s : State) (h : History) → StandsFor s h → IsBounded s
-bounded s h st = segment_bounded s (live h) (live_next h) (live_out h) (live_served h) (timely s h st) st.order.placed st.skew.clocked st.times.marked st.requests.requested (segment s.settings h st.run)
+pub bounded : RunsAreBounded → RepliesTell → NumbersLieBetween → (s : State) (h : History) → StandsFor s h → IsBounded s
+bounded runs replies numbers s h st = segment_bounded numbers s (live h) (live_next h) (live_out h) (live_served h) (timely runs s h st) st.order.placed st.skew.clocked st.times.marked st.requests.requested (segment runs replies numbers s.settings h st.run)
 
 -- the packets put aside are a run, and stand in order
 pub record HasRun (s : State) : Type 0 where
   pub list : s.aside ≡ in_order (run_of s)
   pub run : IsAsideRun (run_of s)
 
-pub has_run : (s : State) (h : History) → StandsFor s h → HasRun s
-has_run s h st =
+pub has_run : RunsAreBounded → (s : State) (h : History) → StandsFor s h → HasRun s
+has_run runs s h st =
     record {
       list = in_order_is s.aside (live_aside h) st.order.aside_is;
-      run = rw (run_is s.aside (live_aside h) st.order.aside_is) (run_or_none _ (aside h) (aside_run s.settings h st.run));
+      run = rw (run_is s.aside (live_aside h) st.order.aside_is) (run_or_none _ (aside h) (runs.aside_is s.settings h st.run));
     }
 
-pub valid : (s : State) (h : History) → StandsFor s h → s.settings.pushers < 512
-valid s h st = (valid_of s.settings h st.run).pushers_to
+pub valid : RunsAreBounded → (s : State) (h : History) → StandsFor s h → s.settings.pushers < 512
+valid runs s h st = (runs.settings s.settings h st.run).pushers_to
 
 run_prop : (run : List Arrival) → IsProp (IsRun run)
 run_prop [] = hlevel props
@@ -49,17 +52,17 @@ run_prop (a ∷ []) = hlevel props
 run_prop (a ∷ b ∷ run) = hlevel (props, run_prop (b ∷ run))
 
 -- each holds of a state that stands for some history
-pub reached_bounded : (s : State) → IsReached s → IsBounded s
-reached_bounded s r = ∥∥₁_elim r (hlevel props) (λ x. bounded s x.0 x.1)
+pub reached_bounded : RunsAreBounded → RepliesTell → NumbersLieBetween → (s : State) → IsReached s → IsBounded s
+reached_bounded runs replies numbers s r = ∥∥₁_elim r (hlevel props) (λ x. bounded runs replies numbers s x.0 x.1)
 
-pub reached_list : (s : State) → IsReached s → s.aside ≡ in_order (run_of s)
-reached_list s r = ∥∥₁_elim r (hlevel props) (λ x. (has_run s x.0 x.1).list)
+pub reached_list : RunsAreBounded → (s : State) → IsReached s → s.aside ≡ in_order (run_of s)
+reached_list runs s r = ∥∥₁_elim r (hlevel props) (λ x. (has_run runs s x.0 x.1).list)
 
-pub reached_run : (s : State) → IsReached s → IsAsideRun (run_of s)
-reached_run s r = ∥∥₁_elim r (hlevel (props, run_prop)) (λ x. (has_run s x.0 x.1).run)
+pub reached_run : RunsAreBounded → (s : State) → IsReached s → IsAsideRun (run_of s)
+reached_run runs s r = ∥∥₁_elim r (hlevel (props, run_prop)) (λ x. (has_run runs s x.0 x.1).run)
 
-pub reached_pushers : (s : State) → IsReached s → s.settings.pushers < 512
-reached_pushers s r = ∥∥₁_elim r (hlevel props) (λ x. valid s x.0 x.1)
+pub reached_pushers : RunsAreBounded → (s : State) → IsReached s → s.settings.pushers < 512
+reached_pushers runs s r = ∥∥₁_elim r (hlevel props) (λ x. valid runs s x.0 x.1)
 
 -- a call that keeps what a state stands for, with an entry added, keeps that it stands for some history
 pub reached_after : (old new : State) (after : History → History) → ((h : History) → StandsFor old h → StandsFor new (after h)) → IsReached old → IsReached new

@@ -19,7 +19,6 @@ use Rattle.jitter_model.specs.declared.Pushed.{Pushed}
 use Rattle.jitter_model.specs.Requests.{lesser, later, due, Asked, wanted_missing, wanted_next, Wanted}
 use Rattle.jitter_model.specs.Times.{expected}
 use Rattle.jitter_model.specs.Turns.{Sight, low, deadline, wanted, packet_turn, request_turn, lost_turn, is_lost, ends_loss, loss_end, asked, turn_by}
-use Rattle.jitter_model.proofs.Chain.{by_turn, least_from_above, least_from_le, least_from_before}
 use Rattle.jitter_core.proofs.Asking.{some_if, value_if}
 use Rattle.jitter_core.specs.declared.peaks.Peak.{Peak}
 use Rattle.jitter_core.specs.declared.schedule.Schedule.{Schedule}
@@ -40,6 +39,9 @@ use Rattle.jitter_core.proofs.Carrying.{Keeps, carry, below_none}
 use Rattle.jitter_core.proofs.Firsts.{stamp_next}
 use Rattle.jitter_core.proofs.Kept.{expected-two}
 use Rattle.jitter_core.proofs.Timers.{pending_held}
+use Rattle.jitter_core.proofs.Cases.{by_turn}
+use Rattle.jitter_model.specs.Known.{RepliesTell}
+use Rattle.jitter_model.specs.Known.{SearchesFindTheLeast}
 
 -- ---- what a number's requests go by
 
@@ -248,26 +250,26 @@ not_yet false d t e = grind (arith, common_steps)
 over_at : (v : Sight) (n m : ℕ) → ends_loss v m ≡ false → deadline v m ≤ v.time
 over_at v n m e = not_yet (v.among m) (deadline v m) v.time e
 
-over_by : (v : Sight) (o : Option ℕ) (q : ℕ) → deadline v (low v o) ≤ v.time → low v o ≤ q → q < loss_end v (low v o) → deadline v q ≤ v.time
-over_by v o q first from to =
+over_by : SearchesFindTheLeast → (v : Sight) (o : Option ℕ) (q : ℕ) → deadline v (low v o) ≤ v.time → low v o ≤ q → q < loss_end v (low v o) → deadline v q ≤ v.time
+over_by searches v o q first from to =
     elim (low v o == q) as (λ b. (low v o == q) ≡ b → deadline v q ≤ v.time) [
       | true ↦ λ e. let same : low v o ≡ q = grind (arith, common_steps) in subst (λ (k : ℕ). deadline v k ≤ v.time) same first
-      | false ↦ λ e. let later : low v o + 1 ≤ q = grind (arith, common_steps) in over_at v (low v o) q (least_from_before (ends_loss v) (low v o + 1) (v.top - (low v o + 1)) q later to)
+      | false ↦ λ e. let later : low v o + 1 ≤ q = grind (arith, common_steps) in over_at v (low v o) q (searches.before (ends_loss v) (low v o + 1) (v.top - (low v o + 1)) q later to)
     ] refl
 
-by_end : (v : Sight) (o : Option ℕ) (n count pts d : ℕ) → is_lost v o ≡ true → AreLosses v o n count pts d (lost_turn v.marks (low v o) (loss_end v (low v o)))
-by_end v o n count pts d l =
+by_end : SearchesFindTheLeast → (v : Sight) (o : Option ℕ) (n count pts d : ℕ) → is_lost v o ≡ true → AreLosses v o n count pts d (lost_turn v.marks (low v o) (loss_end v (low v o)))
+by_end searches v o n count pts d l =
     record {
       fact = λ e.
           let x : (low v o < v.top) × (deadline v (low v o) ≤ v.time) = lost_low v o l in
           let start : n ≡ low v o = cc in
           let long : count ≡ loss_end v (low v o) - low v o = cc in
-          let above : low v o + 1 ≤ loss_end v (low v o) = least_from_above (ends_loss v) (low v o + 1) (v.top - (low v o + 1)) in
-          let most : loss_end v (low v o) ≤ low v o + 1 + (v.top - (low v o + 1)) = least_from_le (ends_loss v) (low v o + 1) (v.top - (low v o + 1)) in
+          let above : low v o + 1 ≤ loss_end v (low v o) = searches.from (ends_loss v) (low v o + 1) (v.top - (low v o + 1)) in
+          let most : loss_end v (low v o) ≤ low v o + 1 + (v.top - (low v o + 1)) = searches.to (ends_loss v) (low v o + 1) (v.top - (low v o + 1)) in
           record {
             is_low = start;
             to = omega (arith, x.0);
-            over = λ q from to. over_by v o q x.1 (omega arith) (omega arith);
+            over = λ q from to. over_by searches v o q x.1 (omega arith) (omega arith);
           };
     }
 
@@ -279,13 +281,13 @@ nothing_asked : (v : Sight) (o : Option ℕ) (n count pts d : ℕ) (x : Option A
 nothing_asked v o n count pts d None = record { fact = λ e. cc }
 nothing_asked v o n count pts d (Some a) = record { fact = λ e. cc }
 
-losses : (s : Settings) (v : Sight) (o : Option ℕ) (n count pts d : ℕ) → Lost n count pts d ≡ turn_by s v o → IsLoss v o n count
-losses s v o n count pts d is =
+losses : SearchesFindTheLeast → (s : Settings) (v : Sight) (o : Option ℕ) (n count pts d : ℕ) → Lost n count pts d ≡ turn_by s v o → IsLoss v o n count
+losses searches s v o n count pts d is =
     (by_turn (AreLosses v o n count pts d) s v o
     (λ _. record { fact = λ e. cc })
     (λ _ _. nothing_asked v o n count pts d (asked s v o))
     (λ _ _ _. no_gift v o n count pts d (v.held (low v o)))
-    (λ _ _ _ l. by_end v o n count pts d l)
+    (λ _ _ _ l. by_end searches v o n count pts d l)
     (λ _ _ _ _ _. record { fact = λ e. cc })
     (λ _ _ _ _ _. record { fact = λ e. cc })).fact is
 
@@ -334,9 +336,9 @@ loses_keeps old new m q d le =
     (λ latency top. ap (wanted_next old.settings latency top) d.heights ∙ after_two old.settings (Some m) latency top old.heights)
     (ap (λ xs. served_in xs q) d.served)
 
-lost_timers : (old new : State) (n count pts e : ℕ) (m : Times) → Lost n count pts e ≡ state_turn old → Loses old new (n + count) → AreTimers old m → AreLater old.progress.time m → AreTimers new m
-lost_timers old new n count pts e m is d h l q =
-    let x : IsLoss (state_sight old) old.span.next n count = losses old.settings (state_sight old) old.span.next n count pts e is in
+lost_timers : SearchesFindTheLeast → (old new : State) (n count pts e : ℕ) (m : Times) → Lost n count pts e ≡ state_turn old → Loses old new (n + count) → AreTimers old m → AreLater old.progress.time m → AreTimers new m
+lost_timers searches old new n count pts e m is d h l q =
+    let x : IsLoss (state_sight old) old.span.next n count = losses searches old.settings (state_sight old) old.span.next n count pts e is in
     timer_at old new (n + count) q (map.get m q) d.settings (ap (λ (y : Span). low (state_sight new) y.next) d.span)
     (carry old.settings (state_sight old) (state_sight new) (low (state_sight old) old.span.next) (n + count) q (map.get m q) (h q) (omega (arith, x.is_low)) (λ le. loses_keeps old new (n + count) q d le) (rw d.progress (omega arith))
     (λ lt. lost_none old n count q (map.get m q) x (h q) (l q) lt))
@@ -355,18 +357,18 @@ no_some : (o : Option Asked) → is_some o ≡ true → o ≡ None → ⊥
 no_some None e f = cc
 no_some (Some x) e f = cc
 
-output_timers : (old new : State) (r : Turn) (m : Times) → IsBounded old → r ≡ state_turn old → state_asked old ≡ None → TurnDoes old r new → AreTimers old m → AreLater old.progress.time m → AreTimers new m
-output_timers old new (Packet n pts p) m b is none d h l = given_timers old new n pts p m b is d h
-output_timers old new (Lost n count pts e) m b is none d h l = lost_timers old new n count pts e m is d h l
-output_timers old new (Request n k) m b is none d h l = let x : IsRequest old.settings (state_sight old) old.span.next n k = requests old.settings (state_sight old) old.span.next n k is in absurd (let some : is_some (state_asked old) ≡ true = x.is_asked in no_some (state_asked old) some none)
-output_timers old new End m b is none d h l = leaves_timers old new m (ends_leave old new d) h
-output_timers old new (Idle wake) m b is none d h l = leaves_timers old new m (same_leave old new d) h
-output_timers old new Flushing m b is none d h l = leaves_timers old new m (same_leave old new d) h
+output_timers : RepliesTell → SearchesFindTheLeast → (old new : State) (r : Turn) (m : Times) → IsBounded old → r ≡ state_turn old → state_asked old ≡ None → TurnDoes old r new → AreTimers old m → AreLater old.progress.time m → AreTimers new m
+output_timers replies searches old new (Packet n pts p) m b is none d h l = given_timers old new n pts p m b is d h
+output_timers replies searches old new (Lost n count pts e) m b is none d h l = lost_timers searches old new n count pts e m is d h l
+output_timers replies searches old new (Request n k) m b is none d h l = let x : IsRequest old.settings (state_sight old) old.span.next n k = requests replies old.settings (state_sight old) old.span.next n k is in absurd (let some : is_some (state_asked old) ≡ true = x.is_asked in no_some (state_asked old) some none)
+output_timers replies searches old new End m b is none d h l = leaves_timers old new m (ends_leave old new d) h
+output_timers replies searches old new (Idle wake) m b is none d h l = leaves_timers old new m (same_leave old new d) h
+output_timers replies searches old new Flushing m b is none d h l = leaves_timers old new m (same_leave old new d) h
 
 -- the reply where no request is due
 pub turn_without : (s : State) (r : Turn) (wake : Option ℕ) → s.progress.flushing ≡ false → state_asked s ≡ None → wake ≡ state_wake s → r ≡ output_turn (state_sight s) s.span.next wake → r ≡ state_turn s
 turn_without s r wake f none w is = is ∙ ap (λ (x : Option ℕ). output_turn (state_sight s) s.span.next x) w ∙ sym (rw (f, none) refl)
 
-pub output_timed : (old new : State) (r : Turn) (x : Schedule) → IsBounded old → r ≡ state_turn old → state_asked old ≡ None → TurnDoes old r new → x.timers.room ≡ 16384 → AreTimers old x.timers.times → AreLater old.progress.time x.timers.times → IsTimed new x
-output_timed old new r x b is none d room h l =
-    record { room = room; right = λ _. output_timers old new r x.timers.times b is none d h l }
+pub output_timed : RepliesTell → SearchesFindTheLeast → (old new : State) (r : Turn) (x : Schedule) → IsBounded old → r ≡ state_turn old → state_asked old ≡ None → TurnDoes old r new → x.timers.room ≡ 16384 → AreTimers old x.timers.times → AreLater old.progress.time x.timers.times → IsTimed new x
+output_timed replies searches old new r x b is none d room h l =
+    record { room = room; right = λ _. output_timers replies searches old new r x.timers.times b is none d h l }

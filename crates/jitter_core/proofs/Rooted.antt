@@ -14,10 +14,12 @@ use Rattle.jitter_model.specs.Accepted.{Taken, top, number_from, is_original, jo
 use Rattle.jitter_model.specs.Verdicts.{verdict, view}
 use Rattle.jitter_model.specs.Times.{is_height, heights, skew_heights}
 use Rattle.jitter_model.specs.Runs.{IsInRange, Run}
-use Rattle.jitter_model.proofs.Chain.{split}
-use Rattle.jitter_model.proofs.Judged.{IsAccepted, IsRestart, says}
 use Rattle.jitter_model.specs.Laws.{IsRun, IsAsideRun}
-use Rattle.jitter_model.proofs.Numbered.{aside_run, joined_run}
+use Rattle.jitter_model.specs.Said.{IsAccepted, IsRestart}
+use Rattle.jitter_core.proofs.Cases.{split}
+use Rattle.jitter_model.specs.Known.{RunsAreBounded}
+use Rattle.jitter_model.specs.Known.{RepliesTell}
+use Rattle.jitter_model.specs.Known.{NumbersLieBetween}
 
 abbrev pub IsRooted : List Taken → Type 0
 IsRooted [] = ⊤
@@ -42,35 +44,35 @@ not_stray true known e k = refl
 not_stray false true e k = cc
 not_stray false false e k = cc
 
-push_rooted : (s : Settings) (h : History) (a : Arrival) (v : Verdict) → v ≡ verdict s h a → IsInRange a → IsAsideRun (aside h) → Rooted (accepted h) → Rooted (taken_after (accepted h) (aside h) a v)
-push_rooted s h a Accepted e i r n =
-    let x : IsAccepted s (view h a) a = says s h a Accepted e in
+push_rooted : RepliesTell → NumbersLieBetween → (s : Settings) (h : History) (a : Arrival) (v : Verdict) → v ≡ verdict s h a → IsInRange a → IsAsideRun (aside h) → Rooted (accepted h) → Rooted (taken_after (accepted h) (aside h) a v)
+push_rooted replies numbers s h a Accepted e i r n =
+    let x : IsAccepted s (view h a) a = replies.verdicts s h a Accepted e in
     record { fact = rooted_more (accepted h) (record { number = number_from (top (accepted h)) a.packet.seq; arrival = a }) (not_stray (is_original a.origin) (is_some (top (accepted h))) x.stray) n.fact }
-push_rooted s h a (Restart d) e i r n =
-    let x : IsRestart s (view h a) a d = says s h a (Restart d) e in
-    record { fact = opened_rooted (joined (aside h) a) (joined_run (aside h) a r.fact i x.original) }
-push_rooted s h a Aside e i r n = n
-push_rooted s h a Late e i r n = n
-push_rooted s h a Duplicate e i r n = n
-push_rooted s h a Full e i r n = n
-push_rooted s h a Stray e i r n = n
-push_rooted s h a Flushing e i r n = n
-push_rooted s h a Ended e i r n = n
+push_rooted replies numbers s h a (Restart d) e i r n =
+    let x : IsRestart s (view h a) a d = replies.verdicts s h a (Restart d) e in
+    record { fact = opened_rooted (joined (aside h) a) (numbers.joined_is (aside h) a r.fact i x.original) }
+push_rooted replies numbers s h a Aside e i r n = n
+push_rooted replies numbers s h a Late e i r n = n
+push_rooted replies numbers s h a Duplicate e i r n = n
+push_rooted replies numbers s h a Full e i r n = n
+push_rooted replies numbers s h a Stray e i r n = n
+push_rooted replies numbers s h a Flushing e i r n = n
+push_rooted replies numbers s h a Ended e i r n = n
 
 none_rooted : (b : Bool) (ps : List Taken) → Rooted ps → Rooted (if b then [] else ps)
 none_rooted true ps n = record { fact = tt }
 none_rooted false ps n = n
 
-pub rooted : (s : Settings) (h : History) → Run s h → Rooted (accepted h)
-rooted s [] r = record { fact = tt }
-rooted s (Push a v n d ∷ h) r = push_rooted s h a v r.0.verdict_is r.0.in_range (aside_run s h r.1) (rooted s h r.1)
-rooted s (Clock t ∷ h) r = rooted s h r.1
-rooted s (FlushStart d ∷ h) r = rooted s h r.1
-rooted s (FlushStop ∷ h) r = none_rooted (is_flushing h) (accepted h) (rooted s h r)
-rooted s (Latency ns ∷ h) r = rooted s h r.1
-rooted s (Report ntp rtp reply ∷ h) r = rooted s h r.1
-rooted s (Ends p ∷ h) r = rooted s h r.1
-rooted s (Turned t ∷ h) r = rooted s h r.1
+pub rooted : RunsAreBounded → RepliesTell → NumbersLieBetween → (s : Settings) (h : History) → Run s h → Rooted (accepted h)
+rooted runs replies numbers s [] r = record { fact = tt }
+rooted runs replies numbers s (Push a v n d ∷ h) r = push_rooted replies numbers s h a v r.0.verdict_is r.0.in_range (runs.aside_is s h r.1) (rooted runs replies numbers s h r.1)
+rooted runs replies numbers s (Clock t ∷ h) r = rooted runs replies numbers s h r.1
+rooted runs replies numbers s (FlushStart d ∷ h) r = rooted runs replies numbers s h r.1
+rooted runs replies numbers s (FlushStop ∷ h) r = none_rooted (is_flushing h) (accepted h) (rooted runs replies numbers s h r)
+rooted runs replies numbers s (Latency ns ∷ h) r = rooted runs replies numbers s h r.1
+rooted runs replies numbers s (Report ntp rtp reply ∷ h) r = rooted runs replies numbers s h r.1
+rooted runs replies numbers s (Ends p ∷ h) r = rooted runs replies numbers s h r.1
+rooted runs replies numbers s (Turned t ∷ h) r = rooted runs replies numbers s h r.1
 
 -- ---- heights
 

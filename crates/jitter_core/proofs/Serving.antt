@@ -17,10 +17,11 @@ use Rattle.jitter_model.specs.Times.{marks}
 use Rattle.jitter_model.specs.Requests.{Asked}
 use Rattle.jitter_model.specs.Turns.{Sight, low, wanted, asked_from, asked, packet_turn, request_turn, turn_by, sight, turn, replies_left, replies_left_from}
 use Rattle.jitter_model.specs.Runs.{Run}
-use Rattle.jitter_model.proofs.Chain.{by_turn}
-use Rattle.jitter_model.proofs.Falling.{AskedIn, asked_in}
 use Rattle.jitter_core.specs.declared.served.Service.{Service}
 use Rattle.jitter_core.specs.Served.{unserved, count_for, served_in, with_served}
+use Rattle.jitter_model.specs.Said.{AskedIn}
+use Rattle.jitter_core.proofs.Cases.{by_turn}
+use Rattle.jitter_model.specs.Known.{RepliesTell}
 
 -- ---- what a Request says
 
@@ -52,11 +53,11 @@ no_packet : (s : Settings) (v : Sight) (o : Option ℕ) (n k m : ℕ) (x : Optio
 no_packet s v o n k m None = record { fact = λ e. cc }
 no_packet s v o n k m (Some p) = record { fact = λ e. cc }
 
-pub requests : (s : Settings) (v : Sight) (o : Option ℕ) (n k : ℕ) → Request n k ≡ turn_by s v o → IsRequest s v o n k
-requests s v o n k is =
+pub requests : RepliesTell → (s : Settings) (v : Sight) (o : Option ℕ) (n k : ℕ) → Request n k ≡ turn_by s v o → IsRequest s v o n k
+requests replies s v o n k is =
     (by_turn (AreRequests s v o n k) s v o
     (λ _. record { fact = λ e. cc })
-    (λ _ some. by_asked s v o n k (asked s v o) some (asked_in s v o))
+    (λ _ some. by_asked s v o n k (asked s v o) some (replies.requests s v o))
     (λ _ _ _. no_packet s v o n k (low v o) (v.held (low v o)))
     (λ _ _ _ _. record { fact = λ e. cc })
     (λ _ _ _ _ _. record { fact = λ e. cc })
@@ -105,30 +106,30 @@ from_least : (h : History) (s : Settings) (n : ℕ) (o : Option ℕ) → low (si
 from_least h s n None le e = le
 from_least h s n (Some k) le e = cc
 
-turned_served : (s : Settings) (h : History) (r : Turn) (q : ℕ) → r ≡ turn s h → IsServed (top (accepted h)) (least (accepted h)) (next h) q (served h q) → IsServed (top (accepted h)) (least (accepted h)) (next_after (next h) r) q (served_after (served h q) r q)
-turned_served s h (Packet n pts p) q is g = record { fact = λ some. ((g.fact some).0, (g.fact some).1, λ none. cc) }
-turned_served s h (Lost n count pts d) q is g = record { fact = λ some. ((g.fact some).0, (g.fact some).1, λ none. cc) }
-turned_served s h (Request n k) q is g =
-    let x : IsRequest s (sight s h) (next h) n k = requests s (sight s h) (next h) n k is in
+turned_served : RepliesTell → (s : Settings) (h : History) (r : Turn) (q : ℕ) → r ≡ turn s h → IsServed (top (accepted h)) (least (accepted h)) (next h) q (served h q) → IsServed (top (accepted h)) (least (accepted h)) (next_after (next h) r) q (served_after (served h q) r q)
+turned_served replies s h (Packet n pts p) q is g = record { fact = λ some. ((g.fact some).0, (g.fact some).1, λ none. cc) }
+turned_served replies s h (Lost n count pts d) q is g = record { fact = λ some. ((g.fact some).0, (g.fact some).1, λ none. cc) }
+turned_served replies s h (Request n k) q is g =
+    let x : IsRequest s (sight s h) (next h) n k = requests replies s (sight s h) (next h) n k is in
     elim (q == n) as (λ b. (q == n) ≡ b → IsServed (top (accepted h)) (least (accepted h)) (next h) q (if b then max (served h q) (k + 1) else served h q)) [
       | true ↦ λ e. let same : q ≡ n = grind (arith, common_steps) in
           record { fact = λ some. (some_accepted s h (accepted h) refl x.is_asked, omega (arith, x.from, x.to, same), λ none. omega (arith, same, from_least h s n (next h) x.from none)) }
       | false ↦ λ _. g
     ] refl
-turned_served s h End q is g = g
-turned_served s h (Idle wake) q is g = g
-turned_served s h Flushes q is g = g
+turned_served replies s h End q is g = g
+turned_served replies s h (Idle wake) q is g = g
+turned_served replies s h Flushes q is g = g
 
-pub all_served : (s : Settings) (h : History) (q : ℕ) → Run s h → IsServed (top (accepted h)) (least (accepted h)) (next h) q (served h q)
-all_served s [] q r = record { fact = λ some. absurd (omega arith) }
-all_served s (Push a v n d ∷ h) q r = push_served h a v q (all_served s h q r.1)
-all_served s (Clock t ∷ h) q r = record { fact = (all_served s h q r.1).fact }
-all_served s (FlushStart d ∷ h) q r = record { fact = (all_served s h q r.1).fact }
-all_served s (FlushStop ∷ h) q r = flush_served (is_flushing h) (accepted h) (next h) q (served h q) (all_served s h q r)
-all_served s (Latency ns ∷ h) q r = record { fact = (all_served s h q r.1).fact }
-all_served s (Report ntp rtp reply ∷ h) q r = record { fact = (all_served s h q r.1).fact }
-all_served s (Ends p ∷ h) q r = record { fact = (all_served s h q r.1).fact }
-all_served s (Turned t ∷ h) q r = turned_served s h t q r.0 (all_served s h q r.1)
+pub all_served : RepliesTell → (s : Settings) (h : History) (q : ℕ) → Run s h → IsServed (top (accepted h)) (least (accepted h)) (next h) q (served h q)
+all_served replies s [] q r = record { fact = λ some. absurd (omega arith) }
+all_served replies s (Push a v n d ∷ h) q r = push_served h a v q (all_served replies s h q r.1)
+all_served replies s (Clock t ∷ h) q r = record { fact = (all_served replies s h q r.1).fact }
+all_served replies s (FlushStart d ∷ h) q r = record { fact = (all_served replies s h q r.1).fact }
+all_served replies s (FlushStop ∷ h) q r = flush_served (is_flushing h) (accepted h) (next h) q (served h q) (all_served replies s h q r)
+all_served replies s (Latency ns ∷ h) q r = record { fact = (all_served replies s h q r.1).fact }
+all_served replies s (Report ntp rtp reply ∷ h) q r = record { fact = (all_served replies s h q r.1).fact }
+all_served replies s (Ends p ∷ h) q r = record { fact = (all_served replies s h q r.1).fact }
+all_served replies s (Turned t ∷ h) q r = turned_served replies s h t q r.0 (all_served replies s h q r.1)
 
 -- ---- one more is served
 

@@ -9,13 +9,13 @@ use Rattle.std.specs.Ordering.{nat_cmp}
 use Rattle.jitter_timers.specs.Timers.{Timers, Times, HasRoom, IsQuick}
 use Rattle.jitter_model.specs.declared.Settings.{Settings}
 use Rattle.jitter_model.specs.Turns.{Sight, low, low as low_of, wanted}
-use Rattle.jitter_model.proofs.Chain.{split}
 use Rattle.jitter_core.specs.declared.state.State.{State}
 use Rattle.jitter_core.specs.Steps.{IsBounded}
 use Rattle.jitter_core.specs.Scheduling.{pending, IsTimer, AreTimers, missing_from, state_gaps}
 use Rattle.jitter_core.specs.Turning.{state_sight}
 use Rattle.jitter_core.proofs.Leaving.{near}
 use Rattle.jitter_core.proofs.Serving.{apart}
+use Rattle.jitter_core.proofs.Cases.{split}
 
 -- ---- which numbers have requests
 

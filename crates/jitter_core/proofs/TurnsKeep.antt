@@ -18,11 +18,6 @@ use Rattle.jitter_model.specs.Verdicts.{is_late}
 use Rattle.jitter_model.specs.Times.{marks, found}
 use Rattle.jitter_model.specs.Turns.{Sight, low, sight, turn, is_quiet}
 use Rattle.jitter_model.specs.Runs.{Run}
-use Rattle.jitter_model.proofs.Chain.{split}
-use Rattle.jitter_model.proofs.Covers.{Covers, covers}
-use Rattle.jitter_model.proofs.Giving.{given, is_some-found}
-use Rattle.jitter_model.proofs.Numbered.{IsDistinct, distinct}
-use Rattle.jitter_model.proofs.Window.{InWindow, window}
 use Rattle.jitter_core.specs.declared.state.Progress.{Progress}
 use Rattle.jitter_core.specs.declared.state.Span.{Span}
 use Rattle.jitter_core.specs.declared.state.State.{State}
@@ -40,6 +35,13 @@ use Rattle.jitter_core.proofs.Agreeing.{turn_is, flushing_turn}
 use Rattle.jitter_core.proofs.Judging.{placed_now, clocked_now, marked_now, requested_now, not_out}
 use Rattle.jitter_core.proofs.Kept.{IsBelow, two_two}
 use Rattle.jitter_core.proofs.Pushes.{HasSegment, leaves, segment_of, segment_now}
+use Rattle.jitter_model.specs.Said.{Covers}
+use Rattle.jitter_model.specs.Numbered.{InWindow, IsDistinct}
+use Rattle.jitter_core.proofs.Cases.{split}
+use Rattle.jitter_model.specs.Known.{RunsAreBounded}
+use Rattle.jitter_model.specs.Known.{RepliesTell}
+use Rattle.jitter_model.specs.Known.{NumbersLieBetween}
+use Rattle.jitter_model.specs.Known.{SearchesFindTheLeast}
 
 -- ---- quiet turns
 
@@ -178,21 +180,21 @@ goes_on old new ps o m served le p s q =
       served_are = λ k e. rw s (q.served_are k (late_before o m k le e));
     }
 
-gives_keeps : (old new : State) (h : History) (n pts : ℕ) (p : PacketType) → StandsFor old h → is_flushing h ≡ false → Packet n pts p ≡ turn old.settings h → Gives old new n → HasSegment new (accepted h) (Some (n + 1)) (λ q. q == n || is_out h q) (served h)
-gives_keeps old new h n pts p st e is d =
-    let cover : Covers (sight old.settings h) (next h) (Packet n pts p) = (covers old.settings h (Packet n pts p) is).fact in
+gives_keeps : RunsAreBounded → RepliesTell → NumbersLieBetween → (old new : State) (h : History) (n pts : ℕ) (p : PacketType) → StandsFor old h → is_flushing h ≡ false → Packet n pts p ≡ turn old.settings h → Gives old new n → HasSegment new (accepted h) (Some (n + 1)) (λ q. q == n || is_out h q) (served h)
+gives_keeps runs replies numbers old new h n pts p st e is d =
+    let cover : Covers (sight old.settings h) (next h) (Packet n pts p) = (replies.covers old.settings h (Packet n pts p) is).fact in
     let g : Placed old (accepted h) (next h) (is_out h) = placed_now old h e st.order.placed in
     let c : Clocked old (accepted h) = clocked_now old h e st.skew.clocked in
     let m : Marked old (accepted h) (next h) = marked_now old h e st.times.marked in
-    let there : has (accepted h) n ≡ true = sym (is_some-found old.settings (accepted h) n) ∙ ap is_some (given old.settings h n pts p (sym is)) in
-    let not_yet : is_out h n ≡ false = not_out old.settings h n st.run (covers_not_late (sight old.settings h) (next h) n pts p cover) in
+    let there : has (accepted h) n ≡ true = sym (numbers.found_is old.settings (accepted h) n) ∙ ap is_some (replies.packets old.settings h n pts p (sym is)) in
+    let not_yet : is_out h n ≡ false = not_out runs old.settings h n st.run (covers_not_late (sight old.settings h) (next h) n pts p cover) in
     record {
       placed = record {
         next_is = ap (λ (x : Span). x.next) d.span;
         top_is = ap (λ (x : Span). x.top) d.span ∙ g.top_is;
         least_is = ap (λ (x : Span). x.least) d.span ∙ g.least_is;
         held_are = λ q. subst (λ (x : Settings). map.get new.held q ≡ (if q == n || is_out h q then None else found x (accepted h) q)) (sym d.settings) (rw d.held (held_removed old.settings (accepted h) (is_out h) old.held n q g.held_are));
-        count_is = ap (λ (x : Span). x.held) d.span ∙ ap (λ (k : ℕ). k - 1) g.count_is ∙ sym (count_given (is_out h) (accepted h) n (distinct old.settings h st.run) there not_yet);
+        count_is = ap (λ (x : Span). x.held) d.span ∙ ap (λ (k : ℕ). k - 1) g.count_is ∙ sym (count_given (is_out h) (accepted h) n (runs.distinct old.settings h st.run) there not_yet);
       };
       clocked = record { rate_is = rw (d.skew, d.settings) c.rate_is; mode_is = rw (d.skew, d.settings) c.mode_is; stands = rw d.skew c.stands };
       marked = record {
@@ -203,9 +205,9 @@ gives_keeps old new h n pts p st e is d =
       requested = goes_on old new (accepted h) (next h) (n + 1) (served h) (covers_below (sight old.settings h) (next h) n pts p cover) d.peaks d.served (requested_now old h e st.requests.requested);
     }
 
-loses_keeps : (old new : State) (h : History) (n count pts e : ℕ) → StandsFor old h → is_flushing h ≡ false → Lost n count pts e ≡ turn old.settings h → Loses old new (n + count) → HasSegment new (accepted h) (Some (n + count)) (is_out h) (served h)
-loses_keeps old new h n count pts e st f is d =
-    let cover : Covers (sight old.settings h) (next h) (Lost n count pts e) = (covers old.settings h (Lost n count pts e) is).fact in
+loses_keeps : RepliesTell → (old new : State) (h : History) (n count pts e : ℕ) → StandsFor old h → is_flushing h ≡ false → Lost n count pts e ≡ turn old.settings h → Loses old new (n + count) → HasSegment new (accepted h) (Some (n + count)) (is_out h) (served h)
+loses_keeps replies old new h n count pts e st f is d =
+    let cover : Covers (sight old.settings h) (next h) (Lost n count pts e) = (replies.covers old.settings h (Lost n count pts e) is).fact in
     let g : Placed old (accepted h) (next h) (is_out h) = placed_now old h f st.order.placed in
     let c : Clocked old (accepted h) = clocked_now old h f st.skew.clocked in
     let m : Marked old (accepted h) (next h) = marked_now old h f st.times.marked in
@@ -243,21 +245,21 @@ top_near s h (Some t) None None w e f = absurd w.fact
 top_near s h (Some t) None (Some k) w e f = absurd w.fact
 
 -- a number of which requests were served has the place of no other in the window
-none_served : (s : Settings) (h : History) (n k q : ℕ) → Run s h → IsRequest s (sight s h) (next h) n k → is_late (next h) q ≡ false → q % 16384 ≡ n % 16384 → q ≢ n → served h q ≡ 0
-none_served s h n k q r x e same other =
+none_served : RunsAreBounded → RepliesTell → (s : Settings) (h : History) (n k q : ℕ) → Run s h → IsRequest s (sight s h) (next h) n k → is_late (next h) q ≡ false → q % 16384 ≡ n % 16384 → q ≢ n → served h q ≡ 0
+none_served runs replies s h n k q r x e same other =
     elim (served h q == 0) as (λ b. (served h q == 0) ≡ b → served h q ≡ 0) [
       | true ↦ λ f. grind (arith, common_steps)
       | false ↦ λ f.
           let some : 0 < served h q = grind (arith, common_steps) in
-          let g : IsServed (top (accepted h)) (least (accepted h)) (next h) q (served h q) = all_served s h q r in
-          let near : (sight s h).top < low (sight s h) (next h) + 8192 = top_near s h (top (accepted h)) (least (accepted h)) (next h) (window s h r) refl refl in
+          let g : IsServed (top (accepted h)) (least (accepted h)) (next h) q (served h q) = all_served replies s h q r in
+          let near : (sight s h).top < low (sight s h) (next h) + 8192 = top_near s h (top (accepted h)) (least (accepted h)) (next h) (runs.window s h r) refl refl in
           let from : low (sight s h) (next h) ≤ q = low_least s h (next h) q e (g.fact some).2 in
           absurd (other (apart (low (sight s h) (next h)) q n from x.from (omega (arith, near, (g.fact some).1)) (omega (arith, near, x.to)) same))
     ] refl
 
-serves_keeps : (old new : State) (h : History) (n k : ℕ) → StandsFor old h → is_flushing h ≡ false → Request n k ≡ turn old.settings h → Serves old new n k → HasSegment new (accepted h) (next h) (is_out h) (λ q. served_after (served h q) (Request n k) q)
-serves_keeps old new h n k st e is d =
-    let x : IsRequest old.settings (sight old.settings h) (next h) n k = requests old.settings (sight old.settings h) (next h) n k is in
+serves_keeps : RunsAreBounded → RepliesTell → (old new : State) (h : History) (n k : ℕ) → StandsFor old h → is_flushing h ≡ false → Request n k ≡ turn old.settings h → Serves old new n k → HasSegment new (accepted h) (next h) (is_out h) (λ q. served_after (served h q) (Request n k) q)
+serves_keeps runs replies old new h n k st e is d =
+    let x : IsRequest old.settings (sight old.settings h) (next h) n k = requests replies old.settings (sight old.settings h) (next h) n k is in
     let g : HasSegment old (accepted h) (next h) (is_out h) (served h) = segment_now old h e st in
     record {
       placed = record { next_is = rw d.span g.placed.next_is; top_is = rw d.span g.placed.top_is; least_is = rw d.span g.placed.least_is; held_are = λ q. rw (d.held, d.settings) (g.placed.held_are q); count_is = rw d.span g.placed.count_is };
@@ -270,7 +272,7 @@ serves_keeps old new h n k st e is d =
             ap (λ (xs : List Service). served_in xs q) d.served
             ∙ served_more old.served n k q (served h q) g.requested.places (g.requested.served_are q late)
             (λ same. rw same x.unserved)
-            (λ place other. none_served old.settings h n k q st.run x late place other);
+            (λ place other. none_served runs replies old.settings h n k q st.run x late place other);
       };
     }
 
@@ -292,30 +294,30 @@ lost_segment new h n count pts d e g = subst (λ (b : Bool). HasSegment new (if 
 request_segment : (new : State) (h : History) (n k : ℕ) → is_flushing h ≡ false → HasSegment new (accepted h) (next h) (is_out h) (λ q. served_after (served h q) (Request n k) q) → HasSegment new (live (Turned (Request n k) ∷ h)) (live_next (Turned (Request n k) ∷ h)) (live_out (Turned (Request n k) ∷ h)) (live_served (Turned (Request n k) ∷ h))
 request_segment new h n k e g = subst (λ (b : Bool). HasSegment new (if b then [] else accepted h) (if b then None else next h) (λ q. not b && is_out h q) (λ q. if b then 0 else served_after (served h q) (Request n k) q)) (sym e) g
 
-turned_keeps : (old new : State) (h : History) (r : Turn) → StandsFor old h → r ≡ turn old.settings h → TurnDoes old r new → StandsFor new (Turned r ∷ h)
-turned_keeps old new h (Packet n pts p) st is d =
+turned_keeps : RunsAreBounded → RepliesTell → NumbersLieBetween → (old new : State) (h : History) (r : Turn) → StandsFor old h → r ≡ turn old.settings h → TurnDoes old r new → StandsFor new (Turned r ∷ h)
+turned_keeps runs replies numbers old new h (Packet n pts p) st is d =
     let e : is_flushing h ≡ false = not_flushing old.settings h (Packet n pts p) is (λ x. cc) in
     assemble old new h (Packet n pts p) st is (alone old new d.settings d.progress d.aside) (ap (λ (x : Progress). x.end_told) d.progress ∙ st.order.told_is)
-    (packet_segment new h n pts p e (gives_keeps old new h n pts p st e is d))
-turned_keeps old new h (Lost n count pts x) st is d =
+    (packet_segment new h n pts p e (gives_keeps runs replies numbers old new h n pts p st e is d))
+turned_keeps runs replies numbers old new h (Lost n count pts x) st is d =
     let e : is_flushing h ≡ false = not_flushing old.settings h (Lost n count pts x) is (λ x. cc) in
     assemble old new h (Lost n count pts x) st is (alone old new d.settings d.progress d.aside) (ap (λ (x : Progress). x.end_told) d.progress ∙ st.order.told_is)
-    (lost_segment new h n count pts x e (loses_keeps old new h n count pts x st e is d))
-turned_keeps old new h (Request n k) st is d =
+    (lost_segment new h n count pts x e (loses_keeps replies old new h n count pts x st e is d))
+turned_keeps runs replies numbers old new h (Request n k) st is d =
     let e : is_flushing h ≡ false = not_flushing old.settings h (Request n k) is (λ x. cc) in
     assemble old new h (Request n k) st is (alone old new d.settings d.progress d.aside) (ap (λ (x : Progress). x.end_told) d.progress ∙ st.order.told_is)
-    (request_segment new h n k e (serves_keeps old new h n k st e is d))
-turned_keeps old new h End st is d =
+    (request_segment new h n k e (serves_keeps runs replies old new h n k st e is d))
+turned_keeps runs replies numbers old new h End st is d =
     assemble old new h End st is
     (record { settings = d.settings; pushes = ap (λ (x : Progress). x.pushes) d.progress; time = ap (λ (x : Progress). x.time) d.progress; latency = ap (λ (x : Progress). x.latency) d.progress; flushing = ap (λ (x : Progress). x.flushing) d.progress; ended = ap (λ (x : Progress). x.ended) d.progress; aside = d.aside })
     (ap (λ (x : Progress). x.end_told) d.progress) (left_alone old new h d.settings d.segment st)
-turned_keeps old new h (Idle wake) st is d =
+turned_keeps runs replies numbers old new h (Idle wake) st is d =
     assemble old new h (Idle wake) st is (alone old new d.settings d.progress d.aside) (ap (λ (x : Progress). x.end_told) d.progress ∙ st.order.told_is) (left_alone old new h d.settings d.segment st)
-turned_keeps old new h Flushing st is d =
+turned_keeps runs replies numbers old new h Flushing st is d =
     assemble old new h Flushing st is (alone old new d.settings d.progress d.aside) (ap (λ (x : Progress). x.end_told) d.progress ∙ st.order.told_is) (left_alone old new h d.settings d.segment st)
 
-pub turn_keeps : (old new : State) (h : History) (r : Turn) → StandsFor old h → r ≡ state_turn old → TurnDoes old r new → StandsFor new (Turned r ∷ h)
-turn_keeps old new h r st value does = turned_keeps old new h r st (value ∙ turn_is old h st) does
+pub turn_keeps : RunsAreBounded → RepliesTell → NumbersLieBetween → SearchesFindTheLeast → (old new : State) (h : History) (r : Turn) → StandsFor old h → r ≡ state_turn old → TurnDoes old r new → StandsFor new (Turned r ∷ h)
+turn_keeps runs replies numbers searches old new h r st value does = turned_keeps runs replies numbers old new h r st (value ∙ turn_is runs numbers searches old h st) does
 
 -- a quiet turn changes nothing
 pub quiet_keeps : (old new : State) (h : History) (r : Turn) → StandsFor old h → TurnDoes old r new → is_quiet r ≡ true → StandsFor new h

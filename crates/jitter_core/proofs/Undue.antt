@@ -4,7 +4,7 @@ use Rattle.std.specs.Prelude.{◌/◌, nat_lt}
 use Rattle.std.proofs.lemmas.Grind.{common_steps}
 use Rattle.std.proofs.Math.Nat.{le-div_iff_mul-le}
 use Rattle.jitter_model.specs.Turns.{least_from}
-use Rattle.jitter_model.proofs.Chain.{least_from_is}
+use Rattle.jitter_model.specs.Known.{SearchesFindTheLeast}
 
 -- a request up to the last one that is due is due
 is_due : (retry first time k : ℕ) → 0 < retry → first ≤ time → k ≤ (time - first) / retry → nat_lt time (first + k * retry) ≡ false
@@ -19,15 +19,15 @@ not_due retry first time k some le from =
     let product : time - first < k * retry = omega (arith, bad) in
     grind (arith, common_steps)
 
-pub undue_is : (retry first time served end m : ℕ) → 0 < retry → first ≤ time → m ≡ max served (min end ((time - first) / retry + 1)) → least_from (λ k. nat_lt time (first + k * retry)) served (end - served) ≡ m
-undue_is retry first time served end m some le is =
-    least_from_is (λ k. nat_lt time (first + k * retry)) served (end - served) m (omega arith) (omega arith)
+pub undue_is : SearchesFindTheLeast → (retry first time served end m : ℕ) → 0 < retry → first ≤ time → m ≡ max served (min end ((time - first) / retry + 1)) → least_from (λ k. nat_lt time (first + k * retry)) served (end - served) ≡ m
+undue_is searches retry first time served end m some le is =
+    searches.is (λ k. nat_lt time (first + k * retry)) served (end - served) m (omega arith) (omega arith)
     (λ q from to. is_due retry first time q some le (omega arith))
     (λ less. not_due retry first time m some le (omega arith))
 
 -- before the first one is due none is
-pub none_due : (retry first time served end : ℕ) → time < first → least_from (λ k. nat_lt time (first + k * retry)) served (end - served) ≡ served
-none_due retry first time served end lt =
-    least_from_is (λ k. nat_lt time (first + k * retry)) served (end - served) served (omega arith) (omega arith)
+pub none_due : SearchesFindTheLeast → (retry first time served end : ℕ) → time < first → least_from (λ k. nat_lt time (first + k * retry)) served (end - served) ≡ served
+none_due searches retry first time served end lt =
+    searches.is (λ k. nat_lt time (first + k * retry)) served (end - served) served (omega arith) (omega arith)
     (λ q from to. absurd (omega arith))
     (λ less. grind (arith, common_steps))

@@ -12,7 +12,10 @@ use crate::served::Served;
 use crate::state::{Progress, Span, State};
 use crate::timing::{delay, end_pusher, pass_time};
 use crate::turning::{have_all_ended, turn_on};
-use jitter_model::laws::{turns_run_out, wakes_are_later};
+use jitter_model::laws::{
+    numbers_lie_between, replies_tell, runs_are_bounded, searches_find_the_least, turns_run_out,
+    wakes_are_later,
+};
 use jitter_model::{Arrival, Held, Pushed, Settings, Turn};
 use jitter_timers::{Steps, TimerQueue};
 use packet_store::{AsideList, Store};
@@ -114,6 +117,10 @@ impl Buffer {
             → steps.new ≤ steps.old + 64 * (gaps (settings_of self.old) h + 2) }
         ensures few_steps { steps.new ≤ steps.old + 42 }
     {
+        // Laws for the proof; the calls do nothing.
+        runs_are_bounded();
+        replies_tell();
+        numbers_lie_between();
         push_on(&mut self.state, &mut self.schedule, a, steps)
     }
 
@@ -139,6 +146,10 @@ impl Buffer {
         // Laws for the proof; the calls do nothing.
         turns_run_out();
         wakes_are_later();
+        runs_are_bounded();
+        replies_tell();
+        numbers_lie_between();
+        searches_find_the_least();
         turn_on(&mut self.state, &mut self.schedule, steps)
     }
 
@@ -162,6 +173,10 @@ impl Buffer {
         ensures stands { (h : History) → Stands self.old h
             → Stands self.new (FlushStart result ∷ h) }
     {
+        // Laws for the proof; the calls do nothing.
+        runs_are_bounded();
+        replies_tell();
+        numbers_lie_between();
         self.schedule.stale = true;
         start_flush(&mut self.state)
     }
@@ -196,6 +211,10 @@ impl Buffer {
         ensures stands { (h : History) → Stands self.now h
             → Stands self.now (Report ntp_ns rtp result ∷ h) }
     {
+        // Laws for the proof; the calls do nothing.
+        runs_are_bounded();
+        replies_tell();
+        numbers_lie_between();
         report_on(&self.state, ntp_ns, rtp)
     }
 
@@ -207,6 +226,8 @@ impl Buffer {
         ensures time { now_of self.new ≡ now_of self.old }
         ensures stands { (h : History) → Stands self.old h → Stands self.new (Ends pusher ∷ h) }
     {
+        // A law for the proof; the call does nothing.
+        runs_are_bounded();
         end_pusher(&mut self.state, pusher);
         self.schedule.stale = true;
     }

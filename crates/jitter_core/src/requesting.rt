@@ -12,6 +12,7 @@ ghost use Rattle.jitter_core.specs.Turning.{have_ended, state_sight};
 
 use crate::state::State;
 use jitter_model::Settings;
+use jitter_model::laws::searches_find_the_least;
 
 /// The requests of a number: when the first is due, and from when on none is made.
 #[derive(Clone, Copy, Debug, Drop)]
@@ -150,6 +151,8 @@ fn first_undue(settings: &Settings, time: u64, first: u64, served: u16) -> u16
     ensures value { result ≡ undue_at settings.now time first served }
     ensures most { result ≤ max served (settings.now.rtx_max + 1) }
 {
+    // A law for the proof; the call does nothing.
+    searches_find_the_least();
     let end = u16::from(settings.rtx_max) + 1;
     if time < first {
         return served;

@@ -14,6 +14,7 @@ ghost use Rattle.jitter_core.specs.Turning.{have_ended, state_sight, state_asked
 use crate::requesting::{Due, due_for, lowest, pending_time};
 use crate::state::State;
 use jitter_model::Turn;
+use jitter_model::laws::{replies_tell, searches_find_the_least};
 use jitter_timers::{Steps, TimerQueue};
 use rtp_units::OutOfMemory;
 use std::alloc::Global;
@@ -123,6 +124,9 @@ pub fn first_wake(state: &State, timers: &TimerQueue) -> Option<u64>
     requires later { AreLater state.now.progress.time timers.now.times }
     ensures { result ≡ state_wake state.now }
 {
+    // Laws for the proof; the calls do nothing.
+    replies_tell();
+    searches_find_the_least();
     match timers.first() {
         None => None,
         Some((time, _)) => Some(time),
@@ -223,6 +227,8 @@ pub fn serve<L: Ledger>(
     ensures right { AreTimers state.new timers.new.times }
     ensures quick { steps.new ≤ steps.old + 14 }
 {
+    // A law for the proof; the call does nothing.
+    replies_tell();
     state.served.set(due.number, u16::from(due.k) + 1);
     reschedule(state, timers, due.number, ended, steps);
     Turn::Request {

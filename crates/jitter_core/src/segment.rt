@@ -14,6 +14,7 @@ use crate::peaks::{Peak, Peaks};
 use crate::placing::{add_mark, is_above, place};
 use crate::state::{Span, State};
 use crate::verdicts::number_of;
+use jitter_model::laws::numbers_lie_between;
 use jitter_model::{Arrival, Held};
 use packet_store::{AsideList, Offer, Store};
 use std::mem;
@@ -126,6 +127,8 @@ pub fn reopen(state: &mut State, a: Arrival) -> u64
     ensures number { result ≡ opened_number (run_of state.old) a }
     ensures segment { IsOpenedBy state.new (a ∷ run_of state.old) }
 {
+    // A law for the proof; the call does nothing.
+    numbers_lie_between();
     let mut aside = mem::replace(&mut state.aside, AsideList::new());
     clear_segment(state);
     while let Some(earlier) = aside.take_first() {

@@ -16,17 +16,7 @@ use Rattle.jitter_model.specs.Turns.{Sight, low, asked, may_start, may_give, is_
 use Rattle.jitter_model.specs.Runs.{Run}
 use Rattle.jitter_model.specs.Laws.{IsConsecutive}
 use Rattle.jitter_model.proofs.Chain.{by_turn, least_from_le, least_from_above}
-
--- what numbers a reply covers: the least one first, then the next one, or those from it on up to one that isn't past the greatest
-abbrev pub Covers : Sight → Option ℕ → Turn → Type 0
-Covers v None (Packet m pts p) = (m ≡ v.least) × (may_start v v.start ≡ true)
-Covers v (Some k) (Packet m pts p) = (m ≡ k) × (v.among k ≡ true)
-Covers v None (Lost n count pts d) = ⊥
-Covers v (Some k) (Lost n count pts d) = (n ≡ k) × (n + count ≤ v.top) × (0 < count)
-Covers v o _ = ⊤
-
-pub record Covering (v : Sight) (o : Option ℕ) (r : Turn) : Type 0 where
-  pub fact : Covers v o r
+use Rattle.jitter_model.specs.Said.{Covering, Covers}
 
 packet_covers : (v : Sight) (o : Option ℕ) (p : Option Held) → may_give v o ≡ true → Covering v o (packet_turn (low v o) p)
 packet_covers v None None e = record { fact = tt }

@@ -19,10 +19,12 @@ use Rattle.jitter_model.specs.Turns.{Sight, low, deadline, asked, may_give, is_d
 use Rattle.jitter_model.specs.Runs.{Run}
 use Rattle.jitter_model.specs.Laws.{contains, IsAllCovered}
 use Rattle.jitter_model.proofs.Chain.{by_turn, has-le}
-use Rattle.jitter_model.proofs.Judged.{IsAccepted, says}
-use Rattle.jitter_model.proofs.Covers.{Covers, covers}
-use Rattle.jitter_model.proofs.Window.{InWindow, window, start_some}
+use Rattle.jitter_model.proofs.Judged.{says}
+use Rattle.jitter_model.proofs.Covers.{covers}
+use Rattle.jitter_model.proofs.Window.{window, start_some}
 use Rattle.jitter_model.proofs.Giving.{has_top, has-ge, held_low}
+use Rattle.jitter_model.specs.Said.{Covers, IsAccepted}
+use Rattle.jitter_model.specs.Numbered.{InWindow}
 
 -- ---- an idle turn without a wake comes only where nothing is left
 

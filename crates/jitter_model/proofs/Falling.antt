@@ -13,6 +13,7 @@ use Rattle.jitter_model.specs.Covered.{next, next_after, served_after}
 use Rattle.jitter_model.specs.Requests.{Wanted, due, Asked, earlier}
 use Rattle.jitter_model.specs.Turns.{Sight, low, wanted, first_undue, is_asked, asked_for, asked_from, asked, may_give, is_lost, loss_end, is_done, packet_turn, request_turn, lost_turn, turn_by, sight, turn, is_quiet, replies_left_from, left_by, left}
 use Rattle.jitter_model.proofs.Chain.{split, by_turn, least_from_le, least_from_above, least_from_after, has-le, least_le_top}
+use Rattle.jitter_model.specs.Said.{AskedIn}
 
 -- ---- the sum of what is left
 
@@ -44,14 +45,6 @@ left_from_later s f n (suc count) m k zero is_m is_k =
 left_from_later s f n (suc count) m k (suc j) is_m is_k = omega (arith, left_from_later s f (n + 1) count m k j (omega arith) (omega arith))
 
 -- ---- the request that is answered
-
--- one of these numbers, with a request that was not served before
-abbrev pub IsAskedIn : Settings → Sight → ℕ → ℕ → Option Asked → Type 0
-IsAskedIn s v n count None = ⊤
-IsAskedIn s v n count (Some r) = (n ≤ r.number) × (r.number < n + count) × (v.served r.number ≤ r.k) × (r.k ≤ s.rtx_max)
-
-pub record AskedIn (s : Settings) (v : Sight) (n count : ℕ) (o : Option Asked) : Type 0 where
-  pub fact : IsAskedIn s v n count o
 
 wider : (s : Settings) (v : Sight) (n count : ℕ) (o : Option Asked) → AskedIn s v (n + 1) count o → AskedIn s v n (suc count) o
 wider s v n count None h = record { fact = tt }

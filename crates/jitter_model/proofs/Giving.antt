@@ -18,8 +18,9 @@ use Rattle.jitter_model.specs.Turns.{Sight, low, asked, may_give, start_time, pa
 use Rattle.jitter_model.specs.Runs.{Run}
 use Rattle.jitter_model.specs.Laws.{IsTheOne}
 use Rattle.jitter_model.proofs.Chain.{by_turn}
-use Rattle.jitter_model.proofs.Numbered.{IsDistinct, distinct}
+use Rattle.jitter_model.proofs.Numbered.{distinct}
 use Rattle.jitter_model.proofs.Window.{out_late, start_some, start_needs}
+use Rattle.jitter_model.specs.Numbered.{IsDistinct}
 
 -- ---- a packet reply has the held packet
 

@@ -13,9 +13,10 @@ use Rattle.jitter_model.specs.Verdicts.{verdict, view}
 use Rattle.jitter_model.specs.Runs.{IsInRange, Run}
 use Rattle.jitter_model.specs.Times.{pts_after, is_height, heights, skew_heights, estimate_of, marks}
 use Rattle.jitter_model.proofs.Chain.{split}
-use Rattle.jitter_model.proofs.Judged.{IsAccepted, IsRestart, says}
+use Rattle.jitter_model.proofs.Judged.{says}
 use Rattle.jitter_model.specs.Laws.{IsRun, IsAsideRun}
 use Rattle.jitter_model.proofs.Numbered.{aside_run, joined_run}
+use Rattle.jitter_model.specs.Said.{IsAccepted, IsRestart}
 
 -- there are no more heights than packets
 pub length-heights : (ps : List Taken) → length (heights ps) ≤ length ps

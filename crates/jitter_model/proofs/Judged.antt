@@ -11,51 +11,7 @@ use Rattle.jitter_model.specs.Accepted.{is_original, joined}
 use Rattle.jitter_model.specs.Verdicts.{View, is_far, is_late, is_full, far_verdict, first_fit, view, verdict}
 use Rattle.jitter_model.proofs.Chain.{split}
 use Rattle.jitter_model.proofs.Waking.{and-left}
-
--- an accepted packet
-pub record IsAccepted (s : Settings) (v : View) (a : Arrival) : Type 0 where
-  pub ended : v.ended ≡ false
-  pub flushing : v.flushing ≡ false
-  pub stray : (not (is_original a.origin) && not (is_some v.top)) ≡ false
-  pub far : (is_original a.origin && is_far s v.top v.next v.number) ≡ false
-  pub late : is_late v.next v.number ≡ false
-  pub among : v.among ≡ false
-  pub full : is_full v.top v.least v.next v.number ≡ false
-
--- a packet that is put aside
-pub record IsAside (s : Settings) (v : View) (a : Arrival) : Type 0 where
-  pub ended : v.ended ≡ false
-  pub flushing : v.flushing ≡ false
-  pub original : is_original a.origin ≡ true
-  pub far : is_far s v.top v.next v.number ≡ true
-  pub run : length (joined v.run a) ≤ 4
-
--- a packet that begins a new segment
-pub record IsRestart (s : Settings) (v : View) (a : Arrival) (dropped : ℕ) : Type 0 where
-  pub ended : v.ended ≡ false
-  pub flushing : v.flushing ≡ false
-  pub original : is_original a.origin ≡ true
-  pub far : is_far s v.top v.next v.number ≡ true
-  pub run : 5 ≤ length (joined v.run a)
-  pub dropped_is : dropped ≡ v.held
-
--- a packet that isn't far, of which there was one at least before
-pub record IsNear (s : Settings) (v : View) (a : Arrival) : Type 0 where
-  pub ended : v.ended ≡ false
-  pub flushing : v.flushing ≡ false
-  pub stray : (not (is_original a.origin) && not (is_some v.top)) ≡ false
-  pub far : (is_original a.origin && is_far s v.top v.next v.number) ≡ false
-
-abbrev pub Says : Settings → View → Arrival → Verdict → Type 0
-Says s v a Accepted = IsAccepted s v a
-Says s v a Aside = IsAside s v a
-Says s v a (Restart dropped) = IsRestart s v a dropped
-Says s v a Late = IsNear s v a × (is_late v.next v.number ≡ true)
-Says s v a Duplicate = IsNear s v a × (is_late v.next v.number ≡ false) × (v.among ≡ true)
-Says s v a Full = IsNear s v a × (is_late v.next v.number ≡ false) × (v.among ≡ false) × (is_full v.top v.least v.next v.number ≡ true)
-Says s v a Stray = (v.ended ≡ false) × (v.flushing ≡ false) × (is_original a.origin ≡ false) × (is_some v.top ≡ false)
-Says s v a Flushing = (v.ended ≡ false) × (v.flushing ≡ true)
-Says s v a Ended = v.ended ≡ true
+use Rattle.jitter_model.specs.Said.{IsNear, Says}
 
 pub record Saying (s : Settings) (v : View) (a : Arrival) (r : Verdict) : Type 0 where
   pub fact : Says s v a r

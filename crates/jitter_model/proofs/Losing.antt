@@ -19,18 +19,11 @@ use Rattle.jitter_model.specs.Turns.{Sight, low, deadline, asked, may_give, is_l
 use Rattle.jitter_model.specs.Runs.{Run}
 use Rattle.jitter_model.specs.Laws.{loses, was_lost, IsMissed}
 use Rattle.jitter_model.proofs.Chain.{by_turn, least_from_before}
-use Rattle.jitter_model.proofs.Judged.{IsAccepted, says}
-use Rattle.jitter_model.proofs.Covers.{Covers, covers}
+use Rattle.jitter_model.proofs.Judged.{says}
+use Rattle.jitter_model.proofs.Covers.{covers}
+use Rattle.jitter_model.specs.Said.{Covers, IsAccepted, IsOver, MissesAll}
 
 -- ---- at a loss
-
-pub record IsOver (v : Sight) (m : ℕ) : Type 0 where
-  pub among : v.among m ≡ false
-  pub is_time : deadline v m ≤ v.time
-
-abbrev pub MissesAll : Sight → Turn → Type 0
-MissesAll v (Lost n count pts d) = (m : ℕ) → n ≤ m → m < n + count → IsOver v m
-MissesAll v _ = ⊤
 
 pub record Missing (v : Sight) (r : Turn) : Type 0 where
   pub fact : MissesAll v r

@@ -12,8 +12,10 @@ use Rattle.jitter_model.specs.Accepted.{top, least, number_from, is_original, ac
 use Rattle.jitter_model.specs.Verdicts.{view}
 use Rattle.jitter_model.specs.Runs.{Run}
 use Rattle.jitter_model.specs.Laws.{IsNearest, IsNearestTo, HaveRoom}
-use Rattle.jitter_model.proofs.Judged.{IsAccepted, says}
-use Rattle.jitter_model.proofs.Numbered.{AreTops, tops, numbered, length-accepted, pushes_most}
+use Rattle.jitter_model.proofs.Judged.{says}
+use Rattle.jitter_model.proofs.Numbered.{tops, numbered, length-accepted, pushes_most}
+use Rattle.jitter_model.specs.Said.{IsAccepted}
+use Rattle.jitter_model.specs.Numbered.{AreTops}
 
 nearest : (t seq n : ℕ) → 65536 ≤ t → seq < 65536 → n ≡ ext16 t seq → IsNearest t seq n
 nearest t seq n from small is = record { value_is = is; congruent = omega arith; from = omega arith; to = omega arith }

@@ -14,7 +14,9 @@ use Rattle.jitter_model.specs.Verdicts.{opened_number, verdict, view}
 use Rattle.jitter_model.specs.Runs.{IsValid, IsInRange, Run}
 use Rattle.jitter_model.specs.Laws.{IsRun, IsAsideRun}
 use Rattle.jitter_model.proofs.Chain.{split, has-le}
-use Rattle.jitter_model.proofs.Judged.{IsAside, IsRestart, IsAccepted, says}
+use Rattle.jitter_model.proofs.Judged.{says}
+use Rattle.jitter_model.specs.Said.{IsAccepted, IsAside, IsRestart}
+use Rattle.jitter_model.specs.Numbered.{AreTops, IsDistinct, IsNumbered, IsOpened}
 
 -- ---- the packets that are put aside
 
@@ -70,11 +72,6 @@ joined_follows run a e = rw e refl
 
 -- ---- numbers
 
--- each packet has the number that its sequence number has after those before it
-abbrev pub IsNumbered : List Taken → Type 0
-IsNumbered [] = ⊤
-IsNumbered (p ∷ ps) = (p.number ≡ number_from (top ps) p.arrival.packet.seq) × IsInRange p.arrival × IsNumbered ps
-
 run_range : (a : Arrival) (run : List Arrival) → IsRun (a ∷ run) → IsInRange a
 run_range a [] r = r.0
 run_range a (b ∷ run) r = r.0
@@ -119,17 +116,6 @@ numbered s (Turned t ∷ h) r = numbered s h r.1
 next_number : (t x y : ℕ) → 65536 ≤ t → t % 65536 ≡ y → x ≡ (y + 1) % 65536 → ext16 t x ≡ t + 1
 next_number t x y le is e = grind arith
 
--- it has consecutive numbers from the first one on
-pub record IsOpened (run : List Arrival) (b : Arrival) : Type 0 where
-  pub first : ℕ
-  pub number_is : opened_number run b ≡ first + length run
-  pub top_is : top (opened (b ∷ run)) ≡ Some (first + length run)
-  pub least_is : least (opened (b ∷ run)) ≡ Some first
-  pub low_bits : (first + length run) % 65536 ≡ b.packet.seq
-  pub from : 65536 ≤ first
-  pub to : first < 131072
-  pub above : unwrap_or (top (opened run)) 0 < opened_number run b
-
 pub opened_run : (run : List Arrival) (b : Arrival) → IsRun (b ∷ run) → IsOpened run b
 opened_run [] b r =
     let small : b.packet.seq < 65536 = r.0.seq in
@@ -160,17 +146,6 @@ opened_run (c ∷ run) b r =
     }
 
 -- ---- bounds
-
--- a greatest number of so many packets
-pub record IsTop (count t : ℕ) : Type 0 where
-  pub above : 65536 ≤ t
-  pub below : t ≤ 98304 + 32767 * count
-
-abbrev pub AreTops : ℕ → Option ℕ → Option ℕ → Type 0
-AreTops count None None = ⊤
-AreTops count None (Some l) = ⊥
-AreTops count (Some t) None = ⊥
-AreTops count (Some t) (Some l) = IsTop count t × (l ≤ t) × (32768 ≤ l)
 
 top_step : (count seq n : ℕ) (t l : Option ℕ) → seq < 65536 → n ≡ number_from t seq → AreTops count t l → AreTops (suc count) (Some (max n (unwrap_or t 0))) (Some (min n (unwrap_or l n)))
 top_step count seq n None None small is h = (record { above = omega arith; below = omega arith }, omega arith, omega arith)
@@ -278,10 +253,6 @@ latency_most s (Ends p ∷ h) r = latency_most s h r.1
 latency_most s (Turned t ∷ h) r = latency_most s h r.1
 
 -- ---- no number stands twice
-
-abbrev pub IsDistinct : List Taken → Type 0
-IsDistinct [] = ⊤
-IsDistinct (p ∷ ps) = (has ps p.number ≡ false) × IsDistinct ps
 
 -- a number above the greatest is not among them
 pub above_has : (ps : List Taken) (n : ℕ) → unwrap_or (top ps) 0 < n → has ps n ≡ false

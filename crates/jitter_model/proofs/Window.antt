@@ -19,12 +19,11 @@ use Rattle.jitter_model.specs.Turns.{Sight, may_start, start_time, sight}
 use Rattle.jitter_model.specs.Runs.{IsInRange, Run}
 use Rattle.jitter_model.specs.Laws.{IsWindow, IsRun, IsAsideRun}
 use Rattle.jitter_model.proofs.Chain.{has-le}
-use Rattle.jitter_model.proofs.Covers.{Covers, covers}
-use Rattle.jitter_model.proofs.Judged.{IsAccepted, IsRestart, says}
-use Rattle.jitter_model.proofs.Numbered.{IsOpened, aside_run, joined_run, joined_five, joined_follows, opened_run}
-
-pub record InWindow (t l o : Option ℕ) : Type 0 where
-  pub fact : IsWindow t l o
+use Rattle.jitter_model.proofs.Covers.{covers}
+use Rattle.jitter_model.proofs.Judged.{says}
+use Rattle.jitter_model.proofs.Numbered.{aside_run, joined_run, joined_five, joined_follows, opened_run}
+use Rattle.jitter_model.specs.Said.{Covers, IsAccepted, IsRestart}
+use Rattle.jitter_model.specs.Numbered.{InWindow, IsOpened}
 
 accepted_window : (t l o : Option ℕ) (n : ℕ) → is_full t l o n ≡ false → is_late o n ≡ false → InWindow t l o → InWindow (Some (max n (unwrap_or t 0))) (Some (min n (unwrap_or l n))) o
 accepted_window None None None n f late h = record { fact = (omega arith, omega arith) }

@@ -24,10 +24,10 @@ use Rattle.replay_model.specs.Taking.{flushed_at_begin, entry_of}
 use Rattle.lane_core.specs.declared.counts.Counts.{Counts}
 use Rattle.lane_core.specs.declared.lane.Lane.{Lane}
 use Rattle.lane_core.specs.Totals.{with_push}
-use Rattle.lane_core.specs.Lanes.{SameLane, Around, Tallies, LaneHolds, LaneTells, begun_with, pushed_at, replied_at, met_at}
+use Rattle.lane_core.specs.Lanes.{SameLane, Around, Sums, Tallies, LaneHolds, LaneTells, begun_with, pushed_at, replied_at, met_at}
 use Rattle.lane_core.proofs.Histories.{lane_here}
 use Rattle.lane_core.proofs.Settling.{holds_more, others_more}
-use Rattle.lane_core.proofs.Tallying.{Sums, adds_more, push_tallied, none_tallied}
+use Rattle.lane_core.proofs.Tallying.{adds_more, push_tallied, none_tallied}
 
 -- what a call that no count knows of does to a lane
 pub record Calls (old new : Lane) (e : Entry) : Type 0 where

@@ -17,18 +17,13 @@ use Rattle.replay_model.specs.Lanes.{lane_count, opened}
 use Rattle.replay_model.specs.Serving.{wake}
 use Rattle.lane_core.specs.declared.counts.Counts.{Counts}
 use Rattle.lane_core.specs.declared.lane.Lane.{Lane}
-use Rattle.lane_core.specs.Lanes.{SameLane, Base, Adds, Tallies, Around, LaneHolds, LaneTells, LaneRests, met_at}
-use Rattle.lane_core.specs.AllLanes.{wakes_in, out_of, lost_of, refused_of, total, SameLanes, LanesTell, LanesRest, LanesHold, all_resting, resting_but, resting_and}
+use Rattle.lane_core.specs.Lanes.{SameLane, Base, Adds, Tallies, Around, LaneHolds, LaneTells, LaneRests, Sums, met_at}
+use Rattle.lane_core.specs.AllLanes.{wakes_in, out_of, lost_of, refused_of, total, rest, rest_of, around, SameLanes, LanesTell, LanesRest, LanesHold, all_resting, resting_but, resting_and}
 use Rattle.lane_core.proofs.Cases.{by_cases}
 use Rattle.lane_core.proofs.Settling.{same_lane, same_lane_then}
-use Rattle.lane_core.proofs.Tallying.{Sums, adds_more, tallies_more}
+use Rattle.lane_core.proofs.Tallying.{adds_more, tallies_more}
 
 -- ---- sums over the other lanes
-
-abbrev pub rest : (Lane → ℕ) → List Lane → ℕ → ℕ
-rest f [] n = 0
-rest f (l ∷ ls) zero = sum_by f ls
-rest f (l ∷ ls) (suc n) = f l + rest f ls n
 
 rest_and_one : (f : Lane → ℕ) (ls : List Lane) (n : ℕ) (was : Lane) → n < length ls → was ≡ get_or ls n was → rest f ls n + f was ≡ sum_by f ls
 rest_and_one f [] n was lt e = absurd (omega arith)
@@ -39,14 +34,6 @@ rest_and_set : (f : Lane → ℕ) (ls : List Lane) (n : ℕ) (b : Lane) → n < 
 rest_and_set f [] n b lt = absurd (omega arith)
 rest_and_set f (l ∷ ls) zero b lt = omega (arith, sum_by-cons f b ls)
 rest_and_set f (l ∷ ls) (suc n) b lt = omega (arith, rest_and_set f ls n b (omega arith), sum_by-cons f l (set ls n b))
-
--- what the others counted
-abbrev pub rest_of : List Lane → ℕ → Counts
-rest_of ls n = record { out = rest out_of ls n; lost = rest lost_of ls n; refused = rest refused_of ls n }
-
--- what stands around a lane
-abbrev pub around : Base → List Lane → ℕ → Timeline → Around
-around base ls n tl = record { base = base; histories = λ k. lane k tl; counts = rest_of ls n }
 
 -- ---- wakes, and what stays
 

@@ -11,10 +11,9 @@ use Rattle.replay_model.specs.Events.{Timeline, Fronted, Told, lane}
 use Rattle.replay_model.specs.Lines.{lines}
 use Rattle.replay_model.specs.Turning.{request, all_requested, sent}
 use Rattle.lane_core.specs.declared.lane.Lane.{Lane}
-use Rattle.lane_core.specs.Lanes.{Base, nack_lines}
+use Rattle.lane_core.specs.Lanes.{Base, Sums, nack_lines}
 use Rattle.lane_core.specs.AllLanes.{LanesRest}
 use Rattle.lane_core.proofs.Placing.{lanes_apart}
-use Rattle.lane_core.proofs.Tallying.{Sums}
 
 requested_lane : (o : Opening) (t : ℕ) (xs : List ℕ) (k : ℕ) (tl : Timeline) → lane k (all_requested o t xs tl) ≡ lane k tl
 requested_lane o t [] k tl = refl

@@ -13,7 +13,7 @@ use Rattle.timeline.specs.declared.line.BinLine.TheVariants as told
 use Rattle.replay_model.specs.Lines.{turn_lines, dropped_lines, verdict_lines, out_in, lost_in, refused_in}
 use Rattle.lane_core.specs.declared.counts.Counts.{Counts}
 use Rattle.lane_core.specs.Totals.{turn_out, turn_lost, refusal, with_turn, with_push}
-use Rattle.lane_core.specs.Lanes.{Base, Adds, Tallies}
+use Rattle.lane_core.specs.Lanes.{Base, Adds, Tallies, Sums}
 
 -- the same lines are added to the list and to the log
 pub adds_more : (base : Base) (told more all ys : List BinLine) → Adds base told all → more ≡ told ++ ys → Adds base more (all ++ ys)
@@ -23,12 +23,6 @@ adds_more base told more all ys h e =
       told_is = e ∙ ap (λ (x : List BinLine). x ++ ys) h.told_is ∙ append_assoc base.before h.more ys;
       all_is = ap (λ (x : List BinLine). x ++ ys) h.all_is ∙ append_assoc base.log h.more ys;
     }
-
--- what lines count
-pub record Sums (xs : List BinLine) (out lost refused : ℕ) : Type 0 where
-  pub out_is : sum_by out_in xs ≡ out
-  pub lost_is : sum_by lost_in xs ≡ lost
-  pub refused_is : sum_by refused_in xs ≡ refused
 
 turn_sums : (t n : ℕ) (r : Turn) → Sums (turn_lines t n r) (turn_out r) (turn_lost r) 0
 turn_sums t n (Packet m pts p) = record { out_is = refl; lost_is = refl; refused_is = refl }

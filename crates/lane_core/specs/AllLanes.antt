@@ -1,5 +1,5 @@
 -- All lanes of a bin against the timeline that they stand for. `o` tells how each lane began.
-use Rattle.std.specs.Prelude.{ℕ, zero, suc, ◌==◌, ◌≡◌, ◌≤◌, ◌<◌, Bool, true, false, List, [], ◌∷◌, ◌++◌, Option, None, length, get_or, sum_by, if◌then◌else◌}
+use Rattle.std.specs.Prelude.{ℕ, zero, suc, ◌+◌, ◌==◌, ◌≡◌, ◌≤◌, ◌<◌, Bool, true, false, List, [], ◌∷◌, ◌++◌, Option, None, length, get_or, sum_by, if◌then◌else◌}
 use Rattle.jitter_core.specs.Words.{pushes_of, settings_of}
 use Rattle.script_lang.specs.Contents.{Contents}
 use Rattle.script_lang.specs.declared.script.Item.{Item}
@@ -14,7 +14,7 @@ use Rattle.replay_model.specs.Taking.{begun}
 use Rattle.replay_model.specs.Serving.{wake, rooms}
 use Rattle.lane_core.specs.declared.counts.Counts.{Counts}
 use Rattle.lane_core.specs.declared.lane.Lane.{Lane}
-use Rattle.lane_core.specs.Lanes.{Base, Adds, Tally, SameLane, LaneHolds}
+use Rattle.lane_core.specs.Lanes.{Base, Adds, Around, Tally, SameLane, LaneHolds}
 
 -- the wake that is kept of a lane
 abbrev pub wakes_in : List Lane → ℕ → Option ℕ
@@ -46,6 +46,22 @@ total ls =
 abbrev pub done_of : List Lane → ℕ → BinLine
 done_of ls records =
     told.Done records (length ls) (sum_by out_of ls) (sum_by lost_of ls) (sum_by refused_of ls)
+
+-- the counts by this of all lanes but one
+abbrev pub rest : (Lane → ℕ) → List Lane → ℕ → ℕ
+rest f [] n = 0
+rest f (l ∷ ls) zero = sum_by f ls
+rest f (l ∷ ls) (suc n) = f l + rest f ls n
+
+-- what the others counted
+abbrev pub rest_of : List Lane → ℕ → Counts
+rest_of ls n =
+    record { out = rest out_of ls n; lost = rest lost_of ls n; refused = rest refused_of ls n }
+
+-- what stands around a lane
+abbrev pub around : Base → List Lane → ℕ → Timeline → Around
+around base ls n tl =
+    record { base = base; histories = λ k. lane k tl; counts = rest_of ls n }
 
 -- ---- what stays
 

@@ -56,6 +56,12 @@ pub record Tallies (others counts : Counts) (xs : List BinLine) : Type 0 where
   pub lost : others.lost + counts.lost ≡ sum_by lost_in xs
   pub refused : others.refused + counts.refused ≡ sum_by refused_in xs
 
+-- what lines count
+pub record Sums (xs : List BinLine) (out lost refused : ℕ) : Type 0 where
+  pub out_is : sum_by out_in xs ≡ out
+  pub lost_is : sum_by lost_in xs ≡ lost
+  pub refused_is : sum_by refused_in xs ≡ refused
+
 -- ---- a lane that was made
 
 pub record FreshLane (opening : Opening) (l : Lane) : Type 0 where

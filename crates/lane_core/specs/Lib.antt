@@ -1,3 +1,4 @@
 pub mod Totals
 pub mod Lanes
 pub mod AllLanes
+pub mod Beside

@@ -7,6 +7,7 @@ mod actions;
 mod counts;
 mod lane;
 mod lanes;
+pub mod laws;
 mod replies;
 #[cfg(test)]
 mod tests;

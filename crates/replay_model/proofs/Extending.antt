@@ -32,18 +32,8 @@ use Rattle.replay_model.specs.Acting.{is_for, flush_begun, done_to, acted_on, al
 use Rattle.replay_model.specs.Taking.{flushed_at_begin, begun, pushed, last_reports, offsets, offset_line, offsets_told, call_of, kept_under, name_of, synced_at, synced_by, synced, stepped, all_stepped, fronted, is_touched, all_ticked, taken}
 use Rattle.replay_model.specs.Serving.{first_due, serve_one, serve_up_to, serve_due, serve}
 use Rattle.replay_model.specs.Ending.{pushers_ended, all_ended, closed}
+use Rattle.replay_model.specs.Keeping.{AreAt, Adds}
 use Rattle.replay_model.specs.Log.{served, with_item, with_input, timeline, whole_timeline}
-
--- these happened at this time
-abbrev pub AreAt : ℕ → Timeline → Type 0
-AreAt t [] = Unit {0}
-AreAt t (e ∷ es) = (event_time e ≡ t) × AreAt t es
-
--- the timeline with what happened then, all of it at this time
-pub record Adds (t : ℕ) (old new : Timeline) : Type 0 where
-  pub more : Timeline
-  pub is : new ≡ more ++ old
-  pub at : AreAt t more
 
 at_then : (t : ℕ) (xs ys : Timeline) → AreAt t xs → AreAt t ys → AreAt t (xs ++ ys)
 at_then t [] ys h k = k
@@ -145,6 +135,13 @@ pub taken_extend : (c : Contents) (t : ℕ) (e : FrontEvent) (tl : Timeline) →
 taken_extend c t e tl =
     then_more t tl (fronted c t e tl) _ (fronted_extend c t e tl)
     (ticked_where_extend c (opened c (fronted c t e tl)) t (is_touched (lane_count tl) (steps c (front tl) e)) (lane_count (fronted c t e tl)) (fronted c t e tl))
+
+-- behind the event itself
+pub taken_adds : (c : Contents) (t : ℕ) (e : FrontEvent) (tl : Timeline) → Adds t (Fronted t e ∷ tl) (taken c t e tl)
+taken_adds c t e tl =
+    let there : Timeline = fronted c t e tl in
+    then_more t (Fronted t e ∷ tl) there (taken c t e tl) (all_stepped_extend c t (steps c (front tl) e) (Fronted t e ∷ tl))
+    (ticked_where_extend c (opened c there) t (is_touched (lane_count tl) (steps c (front tl) e)) (lane_count there) there)
 
 -- ---- items
 

@@ -28,7 +28,8 @@ use Rattle.replay_model.specs.Ending.{all_ended, closed}
 use Rattle.replay_model.specs.Log.{served, with_input, timeline, whole_timeline}
 use Rattle.replay_model.specs.Order.{IsInOrder, input_time, last_time, AreInOrder}
 use Rattle.replay_model.proofs.Lanes.{by_cases}
-use Rattle.replay_model.proofs.Extending.{AreAt, Adds, ticked_extend, fronted_extend, taken_extend, acted_extend, all_ended_extend}
+use Rattle.replay_model.specs.Keeping.{AreAt, Adds}
+use Rattle.replay_model.proofs.Extending.{ticked_extend, fronted_extend, taken_extend, acted_extend, all_ended_extend}
 use Rattle.replay_model.proofs.Turning.{WakesLater, ticked_later, ticked_other}
 use Rattle.replay_model.proofs.Reporting.{reported_lane}
 use Rattle.replay_model.proofs.Serving.{IsDue, IsDueNow, due_is, by_option, serve_none, serve_some, served_ends, ticked_reports, reports_later, time_is, time_by}

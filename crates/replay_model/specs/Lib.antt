@@ -8,5 +8,6 @@ pub mod Taking
 pub mod Serving
 pub mod Ending
 pub mod Log
+pub mod Keeping
 pub mod Order
 pub mod Fitting

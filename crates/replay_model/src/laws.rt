@@ -21,6 +21,7 @@ ghost use Rattle.replay_model.specs.Ending.{closed};
 ghost use Rattle.jitter_model.specs.Runs.{Run};
 ghost use Rattle.replay_model.specs.Lanes.{opened};
 ghost use Rattle.replay_model.specs.Fitting.{IsSound, IsReplay};
+ghost use Rattle.replay_model.specs.Keeping.{TimelinesKeep};
 ghost use Rattle.replay_model.specs.Order.{IsInOrder, last_time, AreInOrder, came};
 
 use jitter_model::laws::{turns_run_out, wakes_are_later};
@@ -147,3 +148,10 @@ pub fn serves_in_parts()
     // A law for the proof; the call does nothing.
     wakes_are_later();
 }
+
+/// The parts of a timeline leave what they are not about: a series of turns, ticks, an item's doing,
+/// the front's steps and what is due each leave how lanes began, what came to the front or the
+/// items. What comes of one event happens at its time.
+pub fn timelines_keep()
+    ensures { TimelinesKeep }
+{}

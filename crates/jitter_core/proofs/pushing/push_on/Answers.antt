@@ -12,18 +12,18 @@ use Rattle.jitter_core.proofs.pushing.push_on.Goals as goal
 -- ---- where no requests are made
 
 pub push_packet-requires-clause-bounded : goal.push_packet-requires-clause-bounded
-push_packet-requires-clause-bounded g c = reached_bounded c.args.state.now c.requires.reached
+push_packet-requires-clause-bounded g c = reached_bounded c.runs_are_bounded.ensures c.replies_tell.ensures c.numbers_lie_between.ensures c.args.state.now c.requires.reached
 
 pub push_packet-requires-clause-aside : goal.push_packet-requires-clause-aside
-push_packet-requires-clause-aside g c = reached_list c.args.state.now c.requires.reached
+push_packet-requires-clause-aside g c = reached_list c.runs_are_bounded.ensures c.args.state.now c.requires.reached
 
 pub push_packet-requires-clause-run : goal.push_packet-requires-clause-run
-push_packet-requires-clause-run g c = reached_run c.args.state.now c.requires.reached
+push_packet-requires-clause-run g c = reached_run c.runs_are_bounded.ensures c.args.state.now c.requires.reached
 
 pub push_packet-requires-clause-pusher : goal.push_packet-requires-clause-pusher
 push_packet-requires-clause-pusher g c =
     pusher_small c.args.state.now.settings.pushers c.args.a.pusher
-    (reached_pushers c.args.state.now c.requires.reached) c.requires.pusher
+    (reached_pushers c.runs_are_bounded.ensures c.args.state.now c.requires.reached) c.requires.pusher
 
 pub returns-then-not-state-clause-timed : goal.returns-then-not-state-clause-timed
 returns-then-not-state-clause-timed g c =
@@ -33,25 +33,25 @@ returns-then-not-state-clause-timed g c =
 -- ---- where there are
 
 pub is_in_order-in_order-requires : goal.is_in_order-in_order-requires
-is_in_order-in_order-requires g c = reached_bounded c.args.state.now c.requires.reached
+is_in_order-in_order-requires g c = reached_bounded c.runs_are_bounded.ensures c.replies_tell.ensures c.numbers_lie_between.ensures c.args.state.now c.requires.reached
 
 pub push_packet-pushed-requires-clause-bounded : goal.push_packet-pushed-requires-clause-bounded
-push_packet-pushed-requires-clause-bounded g c = reached_bounded c.args.state.now c.requires.reached
+push_packet-pushed-requires-clause-bounded g c = reached_bounded c.runs_are_bounded.ensures c.replies_tell.ensures c.numbers_lie_between.ensures c.args.state.now c.requires.reached
 
 pub push_packet-pushed-requires-clause-aside : goal.push_packet-pushed-requires-clause-aside
-push_packet-pushed-requires-clause-aside g c = reached_list c.args.state.now c.requires.reached
+push_packet-pushed-requires-clause-aside g c = reached_list c.runs_are_bounded.ensures c.args.state.now c.requires.reached
 
 pub push_packet-pushed-requires-clause-run : goal.push_packet-pushed-requires-clause-run
-push_packet-pushed-requires-clause-run g c = reached_run c.args.state.now c.requires.reached
+push_packet-pushed-requires-clause-run g c = reached_run c.runs_are_bounded.ensures c.args.state.now c.requires.reached
 
 pub push_packet-pushed-requires-clause-pusher : goal.push_packet-pushed-requires-clause-pusher
-push_packet-pushed-requires-clause-pusher g c = pusher_small c.args.state.now.settings.pushers c.args.a.pusher (reached_pushers c.args.state.now c.requires.reached) c.requires.pusher
+push_packet-pushed-requires-clause-pusher g c = pusher_small c.args.state.now.settings.pushers c.args.a.pusher (reached_pushers c.runs_are_bounded.ensures c.args.state.now c.requires.reached) c.requires.pusher
 
 pub retime-requires-clause-bounded : goal.retime-requires-clause-bounded
 retime-requires-clause-bounded g c =
-    reached_bounded c.push_packet-pushed.new.state
+    reached_bounded c.runs_are_bounded.ensures c.replies_tell.ensures c.numbers_lie_between.ensures c.push_packet-pushed.new.state
     (reached_after c.args.state.now c.push_packet-pushed.new.state (λ h. Push c.args.a c.push_packet-pushed.result.verdict c.push_packet-pushed.result.number c.push_packet-pushed.result.aside_dropped ∷ h)
-    (λ h st. push_keeps c.args.state.now c.push_packet-pushed.new.state h c.args.a c.push_packet-pushed.result st c.push_packet-pushed.ensures c.requires.few c.requires.range c.requires.pusher) c.requires.reached)
+    (λ h st. push_keeps c.runs_are_bounded.ensures c.replies_tell.ensures c.numbers_lie_between.ensures c.args.state.now c.push_packet-pushed.new.state h c.args.a c.push_packet-pushed.result st c.push_packet-pushed.ensures c.requires.few c.requires.range c.requires.pusher) c.requires.reached)
 
 pub retime-requires-clause-refused : goal.retime-requires-clause-refused
 retime-requires-clause-refused g c = λ e.
@@ -59,7 +59,7 @@ retime-requires-clause-refused g c = λ e.
 
 pub retime-requires-clause-follows : goal.retime-requires-clause-follows
 retime-requires-clause-follows g c = λ e v fresh.
-    let b = reached_bounded c.args.state.now c.requires.reached in
+    let b = reached_bounded c.runs_are_bounded.ensures c.replies_tell.ensures c.numbers_lie_between.ensures c.args.state.now c.requires.reached in
     let x = is_next c.args.state.now c.push_packet-pushed.new.state c.args.a c.push_packet-pushed.result c.push_packet-pushed.ensures v (sym c.is_in_order-in_order.ensures ∙ e) in
     let right = c.requires.timed.right fresh in
     record {
@@ -74,5 +74,5 @@ pub retime-requires-clause-fills : goal.retime-requires-clause-fills
 retime-requires-clause-fills g c = λ e v fresh.
     can_fill c.args.state.now c.push_packet-pushed.new.state c.args.a c.push_packet-pushed.result
     c.args.schedule.now.timers.times
-    (reached_bounded c.args.state.now c.requires.reached) c.push_packet-pushed.ensures v e
+    (reached_bounded c.runs_are_bounded.ensures c.replies_tell.ensures c.numbers_lie_between.ensures c.args.state.now c.requires.reached) c.push_packet-pushed.ensures v e
     (c.requires.timed.right fresh)

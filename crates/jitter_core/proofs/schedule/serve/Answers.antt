@@ -17,10 +17,10 @@ top_small None b = omega arith
 top_small (Some x) b = b x refl
 
 pub reschedule-requires-clause-number : goal.reschedule-requires-clause-number
-reschedule-requires-clause-number g c = omega (arith, (asked_range c.args.state.now (asked_of c.args.due.now) c.requires.asked).to, top_small c.args.state.now.span.top c.requires.bounded.below)
+reschedule-requires-clause-number g c = omega (arith, (asked_range c.replies_tell.ensures c.args.state.now (asked_of c.args.due.now) c.requires.asked).to, top_small c.args.state.now.span.top c.requires.bounded.below)
 
 pub reschedule-requires-clause-room : goal.reschedule-requires-clause-room
-reschedule-requires-clause-room g c = room_for c.args.state.now c.args.timers.now c.args.due.now.number c.requires.bounded c.requires.room c.requires.right (asked_range c.args.state.now (asked_of c.args.due.now) c.requires.asked)
+reschedule-requires-clause-room g c = room_for c.args.state.now c.args.timers.now c.args.due.now.number c.requires.bounded c.requires.room c.requires.right (asked_range c.replies_tell.ensures c.args.state.now (asked_of c.args.due.now) c.requires.asked)
 
 pub reschedule-requires-clause-few : goal.reschedule-requires-clause-few
 reschedule-requires-clause-few g c = omega (arith, few_timers c.args.state.now c.args.timers.now.times c.requires.bounded c.requires.right, few_gaps c.args.state.now c.requires.bounded)
@@ -34,4 +34,4 @@ after s x y n k count xs e is h f =
 pub returns-clause-right : goal.returns-clause-right
 returns-clause-right g c =
     after c.args.state.now c.args.timers.now c.reschedule.new.timers c.args.due.now.number c.args.due.now.k (c.from.result + 1) c.set.new.self c.set.ensures (omega (arith, c.from.ensures))
-    (served_timers c.args.state.now c.args.due.now.number c.args.due.now.k c.args.timers.now.times c.requires.bounded (asked_range c.args.state.now (asked_of c.args.due.now) c.requires.asked) c.requires.right) c.reschedule.ensures.after
+    (served_timers c.args.state.now c.args.due.now.number c.args.due.now.k c.args.timers.now.times c.requires.bounded (asked_range c.replies_tell.ensures c.args.state.now (asked_of c.args.due.now) c.requires.asked) c.requires.right) c.reschedule.ensures.after

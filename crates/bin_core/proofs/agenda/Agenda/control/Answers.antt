@@ -5,7 +5,7 @@ use Rattle.bin_core.proofs.agenda.Agenda.control.Goals as goal
 
 pub returns-clause-goes : goal.returns-clause-goes
 returns-clause-goes c = λ k base tl h.
-    controls_at k base c.args.item.now c.serve.new.self _ c.serve.new.lines c.control.new.lines (served k c.args.item.now.time tl)
+    controls_at c.timelines_keep.ensures k base c.args.item.now c.serve.new.self _ c.serve.new.lines c.control.new.lines (served k c.args.item.now.time tl)
     refl refl c.max-self.ensures c.in_ok-control.ensures.stands (c.in_ok-serve.ensures.goes k base tl h)
 
 pub control-requires-clause-rests : goal.control-requires-clause-rests

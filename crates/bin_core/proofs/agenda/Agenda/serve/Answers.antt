@@ -15,7 +15,7 @@ due-smaller c = c.in_ok-serve_one.ensures.fewer (search rules)
 
 pub due-preserved : goal.due-preserved
 due-preserved c = (
-  one_more c.args.reports c.args.limit c.args.self.now c.due.self c.serve_one.new.self c.args.lines.now c.due.lines c.serve_one.new.lines
+  one_more c.timelines_keep.ensures c.args.reports c.args.limit c.args.self.now c.due.self c.serve_one.new.self c.args.lines.now c.due.lines c.serve_one.new.lines
       c.serves_all.ensures.step (c.in_ok-serve_one.ensures.first (search rules)) c.due.invariant.0,
   λ n k. c.in_ok-serve_one.ensures.rests n (c.due.invariant.1 n k),
 )

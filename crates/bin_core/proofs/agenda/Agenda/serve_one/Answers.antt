@@ -120,5 +120,5 @@ returns-in_ok-tick-in-Some-Turns-clause-first c =
     λ e k base tl h. (
       due.Turns c.in-Some-Turns.wake,
       due_by k base c.args.self.now c.args.lines.now tl c.args.reports c.args.limit h ∙ sym found ∙ at,
-      turns_at k base c.in-Some-Turns.wake.time c.in-Some-Turns.wake.lane c.args.self.now _ c.args.lines.now c.tick.new.lines tl refl refl c.max-self.ensures c.in_ok-tick-in-Some-Turns.ensures.stands h,
+      turns_at c.timelines_keep.ensures c.lanes_stand_beside.ensures k base c.in-Some-Turns.wake.time c.in-Some-Turns.wake.lane c.args.self.now _ c.args.lines.now c.tick.new.lines tl refl refl c.max-self.ensures c.in_ok-tick-in-Some-Turns.ensures.stands h,
     )

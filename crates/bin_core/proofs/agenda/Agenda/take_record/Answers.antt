@@ -56,8 +56,8 @@ returns-clause-goes c = λ k base tl h.
     let xs : List Step = c.take.new.steps.items in
     let len_is : c.len-began.result ≡ length was.lanes.items = search rules in
     let end_is : c.len.result ≡ length c.walk.new.self.lanes.items = search rules in
-    takes_at k base c.args.time e c.serve.new.self _ c.serve.new.lines c.tick_listed.new.lines (served k c.args.time tl) refl refl refl c.max-self.ensures
-    (λ k base tl h. takes k base was one c.walk.new.self c.tick_listed.new.self c.args.time e xs c.as_slice-2.result.now c.serve.new.lines c.walk.new.lines c.tick_listed.new.lines tl refl refl refl
+    takes_at c.timelines_keep.ensures k base c.args.time e c.serve.new.self _ c.serve.new.lines c.tick_listed.new.lines (served k c.args.time tl) refl refl refl c.max-self.ensures
+    (λ k base tl h. takes c.lanes_stand_beside.ensures k base was one c.walk.new.self c.tick_listed.new.self c.args.time e xs c.as_slice-2.result.now c.serve.new.lines c.walk.new.lines c.tick_listed.new.lines tl refl refl refl
     (ok_of c.take.result c.in_ok-take.field-0 _ c.in_ok-take.was (c.take.ensures.stands k (front tl) h.front))
     (ok_of c.take.result c.in_ok-take.field-0 _ c.in_ok-take.was (c.take.ensures.steps k (front tl) h.front)
     ∙ ap (λ (ys : List Step). ys ++ steps k (front tl) e) c.clear.ensures.items)

@@ -18,7 +18,7 @@ returns-after-self-2-clause-serves c =
       | then-self-2 w ↦ w.self-is ∙ or_kept c.args.self.now.ahead c.in-Ok.more w.if-self-2.true
       | else-self-2 w ↦ w.self-is ∙ sym (ap (λ (x : Bool). x || c.in-Ok.more) w.if-self-2.false)
     ] in
-    λ k seen told st. advances k seen told c.args.t c.args.self.now _ c.in-Ok.more c.args.lines.now c.serve_one-result.new.lines
+    λ k seen told st. advances c.timelines_keep.ensures k seen told c.args.t c.args.self.now _ c.in-Ok.more c.args.lines.now c.serve_one-result.new.lines
     c.serves_all.ensures.step c.serves_in_parts.ensures c.requires.onward refl ahead (λ e. c.in-Ok.ensures.first e) (λ e. c.in-Ok.ensures.none e) st
 
 pub returns-after-self-2-clause-all : goal.returns-after-self-2-clause-all

@@ -13,7 +13,7 @@ pub returns-clause-stands : goal.returns-clause-stands
 returns-clause-stands c =
     let one : Stage = record { front = c.args.self.now.front; lanes = c.control.new.lanes; wakes = c.args.self.now.wakes; sync = c.args.self.now.sync; standings = c.after-self.result } in
     on_ok c.tick_listed.result _ _
-    (λ ticks. λ kk base tl h. controls kk base c.args.self.now one c.tick_listed.new.self c.args.item.now c.as_slice-2.result.now c.args.lines.now c.control.new.lines c.tick_listed.new.lines tl refl refl
+    (λ ticks. λ kk base tl h. controls c.timelines_keep.ensures c.lanes_stand_beside.ensures kk base c.args.self.now one c.tick_listed.new.self c.args.item.now c.as_slice-2.result.now c.args.lines.now c.control.new.lines c.tick_listed.new.lines tl refl refl
     (λ session x lt is. c.after-self.ensures session x lt is)
     c.control.ensures.stays c.in_ok-control.ensures.stands
     (λ k d lt. ap (λ (bs : List ℕ). is_listed bs k) c.as_slice-2.ensures.value

@@ -13,7 +13,7 @@ end_lane-requires c =
 
 pub loop-number-preserved : goal.loop-number-preserved
 loop-number-preserved c = (
-  lanes_more c.args.time c.loop-number.number _ c.args.self.now c.loop-number.self c.end_lane.new.self c.args.lines.now c.loop-number.lines c.end_lane.new.lines refl c.in_ok-end_lane.ensures.stands c.loop-number.invariant.0,
+  lanes_more c.timelines_keep.ensures c.args.time c.loop-number.number _ c.args.self.now c.loop-number.self c.end_lane.new.self c.args.lines.now c.loop-number.lines c.end_lane.new.lines refl c.in_ok-end_lane.ensures.stands c.loop-number.invariant.0,
   c.end_lane.ensures.same ∙ c.loop-number.invariant.1,
 )
 

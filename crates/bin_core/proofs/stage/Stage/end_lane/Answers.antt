@@ -14,7 +14,7 @@ returns-in_err-end_pusher-clause-same c = c.end_pusher.ensures.same ∙ c.loop-p
 
 pub loop-pusher-preserved : goal.loop-pusher-preserved
 loop-pusher-preserved c = (
-  ends_more c.args.time c.args.number c.loop-pusher.pusher _ c.args.self.now c.loop-pusher.self c.end_pusher.new.self c.args.lines.now c.loop-pusher.lines c.end_pusher.new.lines refl c.in_ok-end_pusher.ensures.stands c.loop-pusher.invariant.0,
+  ends_more c.timelines_keep.ensures c.args.time c.args.number c.loop-pusher.pusher _ c.args.self.now c.loop-pusher.self c.end_pusher.new.self c.args.lines.now c.loop-pusher.lines c.end_pusher.new.lines refl c.in_ok-end_pusher.ensures.stands c.loop-pusher.invariant.0,
   c.end_pusher.ensures.same ∙ c.loop-pusher.invariant.1,
 )
 

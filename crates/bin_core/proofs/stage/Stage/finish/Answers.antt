@@ -14,6 +14,6 @@ done_line-requires c =
 pub returns : goal.returns
 returns c =
     on_ok c.push.result _ _
-    (λ added. finishes c.args.time c.taken.result c.args.self.now c.end_all.new.self c.done_line.result c.args.lines.now c.end_all.new.lines c.push.new.self
+    (λ added. finishes c.lanes_stand_beside.ensures c.args.time c.taken.result c.args.self.now c.end_all.new.self c.done_line.result c.args.lines.now c.end_all.new.lines c.push.new.self
     c.in_ok-end_all.ensures.stands c.taken.ensures (c.done_line.ensures ∙ ap (λ (ls : List Lane). done_of ls c.taken.result) c.as_slice.ensures.value) added)
     c.push.ensures.ok

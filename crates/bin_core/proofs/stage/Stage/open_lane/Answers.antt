@@ -32,7 +32,7 @@ returns-clause-does c =
     let below : c.args.opening.now.session < 8 = open_session c.requires.0 c.args.opening.now c.requires.1 c.args.self.now c.requires.2 in
     let found : st ≡ slice_index_or c.args.self.now.standings c.args.opening.now.session none = ap (λ (n : ℕ). slice_index_or c.args.self.now.standings n none) c.from.ensures in
     on_both c.open.result _ _ _
-    (λ adds goes. λ k base resting tl apart h. opens k base resting c.args.self.now _ c.args.time c.args.opening.now st none c.args.lines.now c.open.new.lines tl adds goes refl refl refl room below found apart h)
+    (λ adds goes. λ k base resting tl apart h. opens c.lanes_stand_beside.ensures k base resting c.args.self.now _ c.args.time c.args.opening.now st none c.args.lines.now c.open.new.lines tl adds goes refl refl refl room below found apart h)
     c.open.ensures.adds c.open.ensures.stands
 
 pub returns-clause-owes : goal.returns-clause-owes

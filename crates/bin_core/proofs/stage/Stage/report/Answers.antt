@@ -27,7 +27,7 @@ tell_all-requires c =
 pub returns-clause-stands : goal.returns-clause-stands
 returns-clause-stands c =
     on_ok c.tell_all.result _ _
-    (λ told. λ k base tl h. reports_told k base c.args.self.now _ c.args.time (ReportsDue c.args.time) c.report.new.steps.items c.args.lines.now c.tell_all.new.lines tl refl refl refl
+    (λ told. λ k base tl h. reports_told c.lanes_stand_beside.ensures k base c.args.self.now _ c.args.time (ReportsDue c.args.time) c.report.new.steps.items c.args.lines.now c.tell_all.new.lines tl refl refl refl
     (ok_of c.report.result c.in_ok-report.field-0 _ c.in_ok-report.was (c.report.ensures.stands k (front tl) h.front))
     (ok_of c.report.result c.in_ok-report.field-0 _ c.in_ok-report.was (c.report.ensures.steps k (front tl) h.front)
     ∙ ap (λ (xs : List Step). xs ++ steps k (front tl) (ReportsDue c.args.time)) c.clear.ensures.items)

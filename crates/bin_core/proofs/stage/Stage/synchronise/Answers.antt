@@ -20,7 +20,7 @@ returns-in_default-clause-does c =
     subst (λ (n : ℕ). Does c.args.time (Sync n c.args.report.now) c.args.self.now new c.args.lines.now c.sync.new.lines) number
     (λ k base resting tl apart h. synced_none k base resting new c.args.time c.from.result c.args.report.now c.index_mut-to.result.now c.in_ok-info.field-0 c.sync.new.lines tl
     (is_none c.in_ok-info.field-0 c.in_default.not-Some)
-    (replied k base resting c.args.self.now new c.args.time c.from.result c.args.report.now c.index_mut-to.result.now c.sync.new.self c.in_ok-info.field-0 c.args.lines.now c.sync.new.lines tl below c.index_mut-to.ensures.value refl refl refl refl c.in_ok-info.ensures.replies c.in_ok-info.ensures.stands apart h)) in
+    (replied c.lanes_stand_beside.ensures k base resting c.args.self.now new c.args.time c.from.result c.args.report.now c.index_mut-to.result.now c.sync.new.self c.in_ok-info.field-0 c.args.lines.now c.sync.new.lines tl below c.index_mut-to.ensures.value refl refl refl refl c.in_ok-info.ensures.replies c.in_ok-info.ensures.stands apart h)) in
     all
 
 pub returns-in_default-cname-clause-does : goal.returns-in_default-cname-clause-does
@@ -33,7 +33,7 @@ returns-in_default-cname-clause-does c =
     (λ k base resting tl apart h. synced_nameless k base resting new c.args.time c.from.result c.args.report.now c.index_mut-to.result.now c.in_ok-info.field-0 c.in-Some.info c.sync.new.lines tl
     c.in-Some.is
     (sym (ap (option_map (λ text. text.now)) (is_none c.cname.result c.in_default-cname.not-Some)) ∙ c.cname.ensures k _ h.front)
-    (replied k base resting c.args.self.now new c.args.time c.from.result c.args.report.now c.index_mut-to.result.now c.sync.new.self c.in_ok-info.field-0 c.args.lines.now c.sync.new.lines tl below c.index_mut-to.ensures.value refl refl refl refl c.in_ok-info.ensures.replies c.in_ok-info.ensures.stands apart h)) in
+    (replied c.lanes_stand_beside.ensures k base resting c.args.self.now new c.args.time c.from.result c.args.report.now c.index_mut-to.result.now c.sync.new.self c.in_ok-info.field-0 c.args.lines.now c.sync.new.lines tl below c.index_mut-to.ensures.value refl refl refl refl c.in_ok-info.ensures.replies c.in_ok-info.ensures.stands apart h)) in
     all
 
 pub returns-clause-does : goal.returns-clause-does
@@ -44,13 +44,13 @@ returns-clause-does c =
     let kept : Stage = record { front = c.args.self.now.front; lanes = with_item c.args.self.now.lanes c.from.result c.sync.new.self; wakes = c.args.self.now.wakes; sync = c.keep.new.sync; standings = c.args.self.now.standings } in
     on_ok c.keep.result _ _
     (λ keep. subst (λ (n : ℕ). Does c.args.time (Sync n c.args.report.now) c.args.self.now kept c.args.lines.now c.keep.new.lines) number
-    (λ k base resting tl apart h. synced_named k base resting new kept c.args.time c.from.result c.args.report.now c.index_mut-to.result.now c.in_ok-info.field-0 c.in-Some.info c.in-Some-cname.name.now c.sync.new.lines c.keep.new.lines tl
+    (λ k base resting tl apart h. synced_named c.lanes_stand_beside.ensures k base resting new kept c.args.time c.from.result c.args.report.now c.index_mut-to.result.now c.in_ok-info.field-0 c.in-Some.info c.in-Some-cname.name.now c.sync.new.lines c.keep.new.lines tl
     c.in-Some.is
     (sym (ap (option_map (λ text. text.now)) c.in-Some-cname.is) ∙ c.cname.ensures k _ h.front)
     (long c.args.self.now.lanes.items c.from.result c.sync.new.self below)
     refl refl refl
     (subst (λ (n : ℕ). Keeps c.args.time n c.in-Some-cname.name.now c.in-Some.info c.args.self.now.sync c.keep.new.sync c.sync.new.lines c.keep.new.lines) (sym number) keep)
-    (replied k base resting c.args.self.now new c.args.time c.from.result c.args.report.now c.index_mut-to.result.now c.sync.new.self c.in_ok-info.field-0 c.args.lines.now c.sync.new.lines tl below c.index_mut-to.ensures.value refl refl refl refl c.in_ok-info.ensures.replies c.in_ok-info.ensures.stands apart h)))
+    (replied c.lanes_stand_beside.ensures k base resting c.args.self.now new c.args.time c.from.result c.args.report.now c.index_mut-to.result.now c.sync.new.self c.in_ok-info.field-0 c.args.lines.now c.sync.new.lines tl below c.index_mut-to.ensures.value refl refl refl refl c.in_ok-info.ensures.replies c.in_ok-info.ensures.stands apart h)))
     c.keep.ensures
 
 pub index_mut-to-requires : goal.index_mut-to-requires

@@ -14,7 +14,7 @@ returns-in_err-numbers-clause-same c = same_but_one c.args.self.now _ c.args.num
 pub returns-clause-stands : goal.returns-clause-stands
 returns-clause-stands c =
     on_ok c.send.result _ _
-    (λ sends. λ k base resting tl h. settles k base resting c.args.self.now _ c.args.number c.args.time (Clock c.args.time) c.index_mut-lane.result.now c.tick.new.self c.in_ok-numbers.numbers.items c.args.lines.now c.tick.new.lines c.send.new.lines tl
+    (λ sends. λ k base resting tl h. settles c.timelines_keep.ensures c.lanes_stand_beside.ensures k base resting c.args.self.now _ c.args.number c.args.time (Clock c.args.time) c.index_mut-lane.result.now c.tick.new.self c.in_ok-numbers.numbers.items c.args.lines.now c.tick.new.lines c.send.new.lines tl
     c.requires.lane c.index_mut-lane.ensures.value refl refl refl c.in_ok-numbers.ensures.stands
     (subst (λ (xs : List ℕ). Sends c.args.time c.tick.new.self.session c.tick.new.self.ssrc xs c.args.self.now.front c.send.new.front c.tick.new.lines c.send.new.lines) c.as_slice.ensures.value sends) h)
     c.send.ensures

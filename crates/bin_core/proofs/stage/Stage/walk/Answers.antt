@@ -26,8 +26,8 @@ loop-step-preserved-in-Continue-1 c =
     let none = tell_counts c.requires.0 c.in-Tell.line (drain_items c.next.new.self) c.loop-step.self owed in
     let does : Does c.args.time c.in-Some.step c.loop-step.self c.loop-step.self c.loop-step.lines c.push.new.self =
     subst (λ (x : Step). Does c.args.time x c.loop-step.self c.loop-step.self c.loop-step.lines c.push.new.self) (sym c.in-Tell.is)
-    (λ k base resting tl apart h. told_tells k base resting c.loop-step.self c.args.time c.in-Tell.line c.loop-step.lines c.push.new.self tl none c.in_ok-push-in-Tell.ensures.ok h) in (
-      does_more c.args.time c.loop-step.yielded _ c.in-Some.step c.args.self.now c.loop-step.self c.loop-step.self c.args.lines.now c.loop-step.lines c.push.new.self refl does c.loop-step.invariant.0,
+    (λ k base resting tl apart h. told_tells c.lanes_stand_beside.ensures k base resting c.loop-step.self c.args.time c.in-Tell.line c.loop-step.lines c.push.new.self tl none c.in_ok-push-in-Tell.ensures.ok h) in (
+      does_more c.timelines_keep.ensures c.args.time c.loop-step.yielded _ c.in-Some.step c.args.self.now c.loop-step.self c.loop-step.self c.args.lines.now c.loop-step.lines c.push.new.self refl does c.loop-step.invariant.0,
       left_next c.loop-step.yielded (drain_items c.next.new.self) (drain_items c.into_iter-step-iterator.result) (drain_items c.loop-step.step-iterator) c.in-Some.step c.loop-step.invariant.1 c.in-Some.ensures.steps.0,
       λ n k. told_done n c.in-Tell.line (drain_items c.next.new.self) c.loop-step.self (subst (λ (xs : List Step). Owes n xs c.loop-step.self) left (c.loop-step.invariant.2 n k)),
     )
@@ -47,7 +47,7 @@ loop-step-preserved-in-Continue-branch-2 c =
     let left : drain_items c.loop-step.step-iterator ≡ step.Open c.in-Open.opening ∷ drain_items c.next.new.self = c.in-Some.ensures.steps.0 ∙ ap (λ (x : Step). x ∷ drain_items c.next.new.self) c.in-Open.is in
     let does : Does c.args.time c.in-Some.step c.loop-step.self c.open_lane.new.self c.loop-step.lines c.open_lane.new.lines =
     subst (λ (x : Step). Does c.args.time x c.loop-step.self c.open_lane.new.self c.loop-step.lines c.open_lane.new.lines) (sym c.in-Open.is) c.in_ok-open_lane-in-Open.ensures.does in (
-      does_more c.args.time c.loop-step.yielded _ c.in-Some.step c.args.self.now c.loop-step.self c.open_lane.new.self c.args.lines.now c.loop-step.lines c.open_lane.new.lines refl does c.loop-step.invariant.0,
+      does_more c.timelines_keep.ensures c.args.time c.loop-step.yielded _ c.in-Some.step c.args.self.now c.loop-step.self c.open_lane.new.self c.args.lines.now c.loop-step.lines c.open_lane.new.lines refl does c.loop-step.invariant.0,
       left_next c.loop-step.yielded (drain_items c.next.new.self) (drain_items c.into_iter-step-iterator.result) (drain_items c.loop-step.step-iterator) c.in-Some.step c.loop-step.invariant.1 c.in-Some.ensures.steps.0,
       λ n k. c.in_ok-open_lane-in-Open.ensures.owes n (drain_items c.next.new.self) (subst (λ (xs : List Step). Owes n xs c.loop-step.self) left (c.loop-step.invariant.2 n k)),
     )
@@ -110,8 +110,8 @@ loop-step-preserved-in-Continue-branch-3 c =
     let does : Does c.args.time c.in-Some.step c.loop-step.self new c.loop-step.lines c.push-in-Push.new.lines =
     subst (λ (x : Step). Does c.args.time x c.loop-step.self new c.loop-step.lines c.push-in-Push.new.lines) (sym c.in-Push.is)
     (subst (λ (n : ℕ). Does c.args.time (step.Push n c.in-Push.arrival) c.loop-step.self new c.loop-step.lines c.push-in-Push.new.lines) number
-    (pushes c.loop-step.self new c.args.time c.from.result c.in-Push.arrival c.index_mut.result.now c.push-in-Push.new.self c.loop-step.lines c.push-in-Push.new.lines below c.index_mut.ensures.value refl refl refl refl c.in_ok-push-in-Push.ensures.stands)) in (
-      does_more c.args.time c.loop-step.yielded _ c.in-Some.step c.args.self.now c.loop-step.self new c.args.lines.now c.loop-step.lines c.push-in-Push.new.lines refl does c.loop-step.invariant.0,
+    (pushes c.lanes_stand_beside.ensures c.loop-step.self new c.args.time c.from.result c.in-Push.arrival c.index_mut.result.now c.push-in-Push.new.self c.loop-step.lines c.push-in-Push.new.lines below c.index_mut.ensures.value refl refl refl refl c.in_ok-push-in-Push.ensures.stands)) in (
+      does_more c.timelines_keep.ensures c.args.time c.loop-step.yielded _ c.in-Some.step c.args.self.now c.loop-step.self new c.args.lines.now c.loop-step.lines c.push-in-Push.new.lines refl does c.loop-step.invariant.0,
       left_next c.loop-step.yielded (drain_items c.next.new.self) (drain_items c.into_iter-step-iterator.result) (drain_items c.loop-step.step-iterator) c.in-Some.step c.loop-step.invariant.1 c.in-Some.ensures.steps.0,
       λ n k. pushed_done n c.from.result c.in-Push.arrival c.index_mut.result.now c.push-in-Push.new.self (drain_items c.next.new.self) c.loop-step.self new below c.index_mut.ensures.value refl refl refl refl c.in_ok-push-in-Push.ensures.stays c.in_ok-push-in-Push.ensures.wake
           (subst (λ (m : ℕ). Owes n (step.Push m c.in-Push.arrival ∷ drain_items c.next.new.self) c.loop-step.self) (sym number)
@@ -133,7 +133,7 @@ loop-step-preserved c =
     let left : drain_items c.loop-step.step-iterator ≡ step.Sync c.in-Sync.lane c.in-Sync.report ∷ drain_items c.next.new.self = c.in-Some.ensures.steps.0 ∙ ap (λ (x : Step). x ∷ drain_items c.next.new.self) c.in-Sync.is in
     let does : Does c.args.time c.in-Some.step c.loop-step.self c.synchronise.new.self c.loop-step.lines c.synchronise.new.lines =
     subst (λ (x : Step). Does c.args.time x c.loop-step.self c.synchronise.new.self c.loop-step.lines c.synchronise.new.lines) (sym c.in-Sync.is) c.in_ok-synchronise-in-Sync.ensures.does in (
-      does_more c.args.time c.loop-step.yielded _ c.in-Some.step c.args.self.now c.loop-step.self c.synchronise.new.self c.args.lines.now c.loop-step.lines c.synchronise.new.lines refl does c.loop-step.invariant.0,
+      does_more c.timelines_keep.ensures c.args.time c.loop-step.yielded _ c.in-Some.step c.args.self.now c.loop-step.self c.synchronise.new.self c.args.lines.now c.loop-step.lines c.synchronise.new.lines refl does c.loop-step.invariant.0,
       left_next c.loop-step.yielded (drain_items c.next.new.self) (drain_items c.into_iter-step-iterator.result) (drain_items c.loop-step.step-iterator) c.in-Some.step c.loop-step.invariant.1 c.in-Some.ensures.steps.0,
       λ n k. c.in_ok-synchronise-in-Sync.ensures.owes n (drain_items c.next.new.self) (subst (λ (xs : List Step). Owes n xs c.loop-step.self) left (c.loop-step.invariant.2 n k)),
     )

@@ -6,7 +6,7 @@ use Rattle.jitter_core.proofs.Reached.{reached_after, reached_bounded}
 use Rattle.jitter_core.proofs.buffer.Buffer.flush_start.Goals as goal
 
 pub start_flush-requires : goal.start_flush-requires
-start_flush-requires c = reached_bounded c.args.self.now.state c.args.self.now.reached
+start_flush-requires c = reached_bounded c.runs_are_bounded.ensures c.replies_tell.ensures c.numbers_lie_between.ensures c.args.self.now.state c.args.self.now.reached
 
 pub invariant_of-self : goal.invariant_of-self
 invariant_of-self c =
