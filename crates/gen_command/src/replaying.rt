@@ -34,10 +34,8 @@ pub fn print_generated<O: Sink>(
     ensures { Prints (text_of false (generated_done first count)) result
         (O.written out.old) (O.written out.new) (O.faults out.old) (O.faults out.new) }
 {
-    match replay_generated(alloc, first, count) {
-        Ok(text) => print_piece(out, text.bytes()),
-        Err(OutOfMemory) => Err(Stop::Memory),
-    }
+    let text = replay_generated(alloc, first, count)?;
+    print_piece(out, text.bytes())
 }
 
 fn replay_generated(alloc: Global, first: u16, count: u32) -> Result<Blob, OutOfMemory>

@@ -41,10 +41,7 @@ pub fn rtxsend_open<F: Files, O: Sink>(
     ensures cause { HasStopCause result (F.faults files.old) (F.faults files.new)
         (O.faults out.old) (O.faults out.new) }
 {
-    let mut command = match RtxSend::new(alloc, script) {
-        Ok(command) => command,
-        Err(OutOfMemory) => return Err(Stop::Memory),
-    };
+    let mut command = RtxSend::new(alloc, script)?;
     run_command(alloc, files, &mut command, out)
 }
 
@@ -110,10 +107,7 @@ impl Command for RtxSend {
         rec: &PcapRecord,
         out: &mut O,
     ) -> Result<(), Stop> {
-        match self.print_header(out) {
-            Ok(()) => {}
-            Err(stop) => return Err(stop),
-        }
+        self.print_header(out)?;
         self.records += 1;
         self.time = time;
         print_answers_to(alloc, &mut self.answering, time, link, rec, out)
@@ -147,10 +141,8 @@ fn print_answers_to<O: Sink>(
     ensures more { AddsMore [] (O.written out.old) (O.written out.new) }
     ensures cause { HasWriteCause result (O.faults out.old) (O.faults out.new) }
 {
-    match answering.take(alloc, link, rec) {
-        Ok(requests) => print_answers(alloc, answering, time, requests.as_slice(), out),
-        Err(OutOfMemory) => Err(Stop::Memory),
-    }
+    let requests = answering.take(alloc, link, rec)?;
+    print_answers(alloc, answering, time, requests.as_slice(), out)
 }
 
 // Writes what answers these requests, one after the other.
@@ -173,10 +165,7 @@ fn print_answers<O: Sink>(
     ensures cause { HasWriteCause result (O.faults out.old) (O.faults out.new) }
 {
     for request in requests {
-        match print_answer(alloc, answering, time, *request, out) {
-            Ok(()) => {}
-            Err(stop) => return Err(stop),
-        }
+        print_answer(alloc, answering, time, *request, out)?;
     }
     Ok(())
 }
@@ -199,9 +188,8 @@ fn print_answer<O: Sink>(
     ensures more { AddsMore [] (O.written out.old) (O.written out.new) }
     ensures cause { HasWriteCause result (O.faults out.old) (O.faults out.new) }
 {
-    match answering.answer(alloc, time, request) {
-        Ok(Some(piece)) => print_piece(out, piece.bytes()),
-        Ok(None) => Ok(()),
-        Err(OutOfMemory) => Err(Stop::Memory),
+    match answering.answer(alloc, time, request)? {
+        Some(piece) => print_piece(out, piece.bytes()),
+        None => Ok(()),
     }
 }
