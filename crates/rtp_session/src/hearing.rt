@@ -1,10 +1,12 @@
 //! What a packet is to the table of sources.
-ghost use Rattle.std.specs.Prelude.{◌≡◌, ◌<◌, ◌≤◌, ◌+◌, ◌^◌, IfOk, OnOk};
+ghost use Rattle.std.specs.Prelude.{◌≡◌, ◌<◌, ◌≤◌, ◌+◌, ◌^◌, nat_eq, IfOk, OnOk};
+ghost use Rattle.std.specs.List.{list_any};
 ghost use Rattle.source_table.specs.Table.{packet_of};
 ghost use Rattle.source_table.specs.Answers.{heard, heard_next};
 ghost use Rattle.rtp_session.specs.Answers.{as_heard};
 
 use crate::answers::DropCause;
+use indexmap::IndexSet;
 use rtp_units::{Address, OutOfMemory};
 use rtp_wire::RtpView;
 use source_table::laws::tables_have_one_answer;
@@ -37,4 +39,14 @@ pub(crate) fn hear(
         Err(Refuse::Collision { kept, new }) => Ok(Err(DropCause::Collision { kept, new })),
         Err(Refuse::OutOfMemory) => Err(OutOfMemory),
     }
+}
+
+/// Whether a source is valid at once. A session that names no such source, as most, looks none up.
+pub(crate) fn is_quick(quick: &IndexSet<u32>, ssrc: u32) -> bool
+    ensures { result ≡ list_any (nat_eq ssrc) quick.now.keys }
+{
+    if quick.is_empty() {
+        return false;
+    }
+    quick.contains(&ssrc)
 }

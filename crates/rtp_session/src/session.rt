@@ -12,7 +12,7 @@ ghost use Rattle.rtp_session.specs.Standing.{setting, is_want_of_memory, StandsF
 
 use crate::answers::{Reported, SessionNote, SessionOut};
 use crate::compound::hear_compound;
-use crate::hearing::hear;
+use crate::hearing::{hear, is_quick};
 use crate::held::{Runs, forget, take_packet};
 use crate::outgoing::{nack_bytes, report_bytes};
 use front_model::laws::removed_sources_are_named;
@@ -116,7 +116,7 @@ impl Session {
         }
         // It stays so if memory is refused on the way.
         self.failed = true;
-        let quick = self.quick.contains(&view.ssrc());
+        let quick = is_quick(&self.quick, view.ssrc());
         let answer = hear(&mut self.sources, now, from, view, rate, quick)?;
         let out = take_packet(alloc, &mut self.held, now, view, answer)?;
         self.failed = false;

@@ -15,8 +15,8 @@ pub returns-clause-answer : goal.returns-clause-answer
 returns-clause-answer c = λ s older stands.
     let i = c.self.inside in
     let h = held_by (state_of i.own i.heard i.failed i.quick.keys i.sources i.held.entries) c.args.self.now s older c.self.view_is stands in
-    let quick = c.contains-quick.ensures ∙ ap (λ (n : ℕ). list_any (nat_eq n) i.quick.keys) c.ssrc.ensures in
-    let heard = c.in_ok-answer.ensures.answer ∙ heard_as (state_of i.own i.heard i.failed i.quick.keys i.sources i.held.entries).holding s older c.args.now c.args.from c.args.view.now c.args.rate c.contains-quick.result h quick in
+    let quick = c.is_quick-quick.ensures ∙ ap (λ (n : ℕ). list_any (nat_eq n) i.quick.keys) c.ssrc.ensures in
+    let heard = c.in_ok-answer.ensures.answer ∙ heard_as (state_of i.own i.heard i.failed i.quick.keys i.sources i.held.entries).holding s older c.args.now c.args.from c.args.view.now c.args.rate c.is_quick-quick.result h quick in
     packet_told (state_of i.own i.heard i.failed i.quick.keys i.sources i.held.entries).holding s older c.args.now c.args.from c.args.view.now c.args.rate
     (out_notes (kept_at c.args.now c.args.view.now) c.in_ok-out.out) (as_heard c.in_ok-answer.answer) h c.in_ok-out.ensures.notes heard
 
@@ -24,8 +24,8 @@ pub returns-clause-cause : goal.returns-clause-cause
 returns-clause-cause c = λ s older stands.
     let i = c.self.inside in
     let h = held_by (state_of i.own i.heard i.failed i.quick.keys i.sources i.held.entries) c.args.self.now s older c.self.view_is stands in
-    let quick = c.contains-quick.ensures ∙ ap (λ (n : ℕ). list_any (nat_eq n) i.quick.keys) c.ssrc.ensures in
-    let heard = c.in_ok-answer.ensures.answer ∙ heard_as (state_of i.own i.heard i.failed i.quick.keys i.sources i.held.entries).holding s older c.args.now c.args.from c.args.view.now c.args.rate c.contains-quick.result h quick in
+    let quick = c.is_quick-quick.ensures ∙ ap (λ (n : ℕ). list_any (nat_eq n) i.quick.keys) c.ssrc.ensures in
+    let heard = c.in_ok-answer.ensures.answer ∙ heard_as (state_of i.own i.heard i.failed i.quick.keys i.sources i.held.entries).holding s older c.args.now c.args.from c.args.view.now c.args.rate c.is_quick-quick.result h quick in
     c.in_ok-out.ensures.cause ∙ ap cause_of heard
 
 pub returns-clause-stands : goal.returns-clause-stands
@@ -34,8 +34,8 @@ returns-clause-stands c = λ s older stands.
     let x = state_of i.own i.heard i.failed i.quick.keys i.sources i.held.entries in
     let y = state_of i.own (i.heard + 1) false i.quick.keys c.hear.new.sources c.take_packet.new.held.entries in
     let h = held_by x c.args.self.now s older c.self.view_is stands in
-    let quick = c.contains-quick.ensures ∙ ap (λ (n : ℕ). list_any (nat_eq n) i.quick.keys) c.ssrc.ensures in
-    let heard = c.in_ok-answer.ensures.answer ∙ heard_as x.holding s older c.args.now c.args.from c.args.view.now c.args.rate c.contains-quick.result h quick in
+    let quick = c.is_quick-quick.ensures ∙ ap (λ (n : ℕ). list_any (nat_eq n) i.quick.keys) c.ssrc.ensures in
+    let heard = c.in_ok-answer.ensures.answer ∙ heard_as x.holding s older c.args.now c.args.from c.args.view.now c.args.rate c.is_quick-quick.result h quick in
     stands_for y s (Rtp c.args.now c.args.from c.args.view.now c.args.rate ∷ older) (own_of x c.args.self.now s older c.self.view_is stands) refl
-    (packet_kept x.holding y.holding s older c.args.now c.args.from c.args.view.now c.args.rate c.contains-quick.result (as_heard c.in_ok-answer.answer) h quick heard refl c.in_ok-answer.ensures.after
+    (packet_kept x.holding y.holding s older c.args.now c.args.from c.args.view.now c.args.rate c.is_quick-quick.result (as_heard c.in_ok-answer.answer) h quick heard refl c.in_ok-answer.ensures.after
     c.in_ok-out.ensures.held)
