@@ -162,7 +162,7 @@ impl Buffer {
         ensures stands { (h : History) → Stands self.old h
             → Stands self.new (FlushStart result ∷ h) }
     {
-        self.schedule.stale = true;
+        self.schedule.stale_from = Some(0);
         start_flush(&mut self.state)
     }
 
@@ -185,7 +185,7 @@ impl Buffer {
         ensures stands { (h : History) → Stands self.old h → Stands self.new (Latency ns ∷ h) }
     {
         delay(&mut self.state, ns);
-        self.schedule.stale = true;
+        self.schedule.stale_from = Some(0);
     }
 
     /// The presentation time of the RTP timestamp of a sender report (RFC 3550, section 6.4.1), with the
@@ -208,7 +208,7 @@ impl Buffer {
         ensures stands { (h : History) → Stands self.old h → Stands self.new (Ends pusher ∷ h) }
     {
         end_pusher(&mut self.state, pusher);
-        self.schedule.stale = true;
+        self.schedule.stale_from = Some(0);
     }
 
     /// Whether all pushers ended.
