@@ -53,7 +53,7 @@ within_by : (s : State) (m : Times) (n q : ℕ) (p : Option ℕ) (b : Bool) → 
 within_by s m n q p true same w from to e = let is : q ≡ n = grind (arith, common_steps) in (omega arith, omega arith)
 within_by s m n q p false other w from to e = w q e
 
-within_with : (s : State) (m : Times) (n q : ℕ) (p : Option ℕ) → AreInRange s m → low (state_sight s) s.span.next ≤ n → n ≤ unwrap_or s.span.top 0 + 1 → IsSome (map.get (with_timer m n p) q) → (low (state_sight s) s.span.next ≤ q) × (q ≤ unwrap_or s.span.top 0 + 1)
+pub within_with : (s : State) (m : Times) (n q : ℕ) (p : Option ℕ) → AreInRange s m → low (state_sight s) s.span.next ≤ n → n ≤ unwrap_or s.span.top 0 + 1 → IsSome (map.get (with_timer m n p) q) → (low (state_sight s) s.span.next ≤ q) × (q ≤ unwrap_or s.span.top 0 + 1)
 within_with s m n q p w from to e = within_by s m n q p (q == n) refl w from to (subst (λ (o : Option ℕ). IsSome o) (get_with m n q p) e)
 
 pub ready_next : (s : State) (x y : Timers) (n most : ℕ) (p : Option ℕ) → IsReady s x most → low (state_sight s) s.span.next ≤ n → n ≤ unwrap_or s.span.top 0 + 1 → y ≡ record { room = x.room; times = with_timer x.times n p; heap = y.heap } → IsReady s y (most + 1)
@@ -65,7 +65,7 @@ ready_next s x y n most p r from to e =
     }
 
 -- below the lowest number there is none
-none_below : (s : State) (m : Times) (q : ℕ) (o : Option ℕ) → map.get m q ≡ o → AreInRange s m → q < low (state_sight s) s.span.next → IsTimer s.settings (state_sight s) (low (state_sight s) s.span.next) q o
+pub none_below : (s : State) (m : Times) (q : ℕ) (o : Option ℕ) → map.get m q ≡ o → AreInRange s m → q < low (state_sight s) s.span.next → IsTimer s.settings (state_sight s) (low (state_sight s) s.span.next) q o
 none_below s m q None e w lt = record { some = λ t f. cc; none = λ _ le _. absurd (omega arith) }
 none_below s m q (Some t) e w lt = absurd (let le : low (state_sight s) s.span.next ≤ q = (w q (ap is_some e)).0 in omega arith)
 
@@ -95,7 +95,7 @@ two_right s x y z number reorder top from h w e f is lt q =
 
 -- ---- what a packet one above the greatest number leaves of the others
 
-wanted_below : (s : Settings) (v w : Sight) (q : ℕ) → q < v.top → q < w.top → w.among q ≡ v.among q → w.first_due q ≡ v.first_due q → expected w.marks q ≡ expected v.marks q → w.latency ≡ v.latency → wanted s w q ≡ wanted s v q
+pub wanted_below : (s : Settings) (v w : Sight) (q : ℕ) → q < v.top → q < w.top → w.among q ≡ v.among q → w.first_due q ≡ v.first_due q → expected w.marks q ≡ expected v.marks q → w.latency ≡ v.latency → wanted s w q ≡ wanted s v q
 wanted_below s v w q old new among first expects latency =
     let below_old : nat_lt q v.top ≡ true = grind (arith, common_steps) in
     let below_new : nat_lt q w.top ≡ true = grind (arith, common_steps) in
@@ -103,7 +103,7 @@ wanted_below s v w q old new among first expects latency =
     let after_new : (q == w.top + 1) ≡ false = grind (arith, common_steps) in
     rw (below_old, below_new, after_old, after_new, among, first, expects, latency) refl
 
-expected_same : (o : Option ℕ) (m : Mark) (ms : List Mark) (t q : ℕ) → is_next_mark ms (t + 1) ≡ true → q < t → t < m.number → ((k : ℕ) → o ≡ Some k → k ≤ q) → expected (m ∷ before_another o ms) q ≡ expected ms q
+pub expected_same : (o : Option ℕ) (m : Mark) (ms : List Mark) (t q : ℕ) → is_next_mark ms (t + 1) ≡ true → q < t → t < m.number → ((k : ℕ) → o ≡ Some k → k ≤ q) → expected (m ∷ before_another o ms) q ≡ expected ms q
 expected_same o m [] t q is lt above low = cc
 expected_same None m (b ∷ ms) t q is lt above low =
     let past : nat_le m.number q ≡ false = grind (arith, common_steps) in
@@ -146,7 +146,7 @@ pub record IsNext (old new : State) (a : Arrival) (n : ℕ) : Type 0 where
   pub above : n ≡ unwrap_or old.span.top 0 + 1
   pub latest : is_next_mark old.heights (unwrap_or old.span.top 0 + 1) ≡ true
 
-known : (o : Option ℕ) → is_some o ≡ true → o ≡ Some (unwrap_or o 0)
+pub known : (o : Option ℕ) → is_some o ≡ true → o ≡ Some (unwrap_or o 0)
 known None e = cc
 known (Some x) e = refl
 
@@ -172,11 +172,11 @@ peaks_with old new a n x = x.accepts.peaks ∙ rw (is_above_top old.span.top n x
 heights_with : (old new : State) (a : Arrival) (n : ℕ) (x : IsNext old new a n) → new.heights ≡ record { number = n; pts = x.accepts.pts } ∷ before_another old.span.next old.heights
 heights_with old new a n x = x.accepts.heights ∙ rw (x.original, is_above_top old.span.top n x.above) refl
 
-past_low : (s : State) (o : Option ℕ) (q m : ℕ) → low (state_sight s) o ≤ q → q < m → IsPast o m
+pub past_low : (s : State) (o : Option ℕ) (q m : ℕ) → low (state_sight s) o ≤ q → q < m → IsPast o m
 past_low s None q m le lt = tt
 past_low s (Some k) q m le lt = omega arith
 
-low_known : (s : State) (o : Option ℕ) (q k : ℕ) → low (state_sight s) o ≤ q → o ≡ Some k → k ≤ q
+pub low_known : (s : State) (o : Option ℕ) (q k : ℕ) → low (state_sight s) o ≤ q → o ≡ Some k → k ≤ q
 low_known s None q k le e = cc
 low_known s (Some j) q k le e = let same : j ≡ k = cc in omega arith
 

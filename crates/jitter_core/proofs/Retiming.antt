@@ -31,7 +31,7 @@ use Rattle.jitter_core.specs.Pushing.{PushStep, SegmentAfter, takes}
 use Rattle.jitter_core.specs.Requesting.{first_due_by}
 use Rattle.jitter_core.specs.Served.{served_in}
 use Rattle.jitter_core.specs.Steps.{IsBounded, LeavesSegment, IsSame}
-use Rattle.jitter_core.specs.Scheduling.{pending_of, pending, is_over, IsTimer, AreTimers, AreLater, IsTimed}
+use Rattle.jitter_core.specs.Scheduling.{pending_of, pending, is_over, IsTimer, AreTimers, AreTimersBelow, AreLater, IsTimed}
 use Rattle.jitter_core.proofs.Serving.{IsRequest, requests}
 use Rattle.jitter_core.specs.Turning.{TellsEnd, state_asked, state_wake, output_turn, have_ended, state_sight, state_turn, Gives, Loses, TurnDoes}
 use Rattle.jitter_core.proofs.Agreeing.{after_two}
@@ -90,13 +90,35 @@ leaves_keeps old new q l =
     (λ latency top. ap (wanted_next old.settings latency top) l.heights)
     (ap (λ xs. served_in xs q) l.served)
 
+leaves_timer : (old new : State) (q : ℕ) (g : Option ℕ) → Leaves old new
+    → IsTimer old.settings (state_sight old) (low (state_sight old) old.span.next) q g
+    → IsTimer new.settings (state_sight new) (low (state_sight new) new.span.next) q g
+leaves_timer old new q g l h =
+    timer_at old new (low (state_sight old) old.span.next) q g l.settings (same_low old new l.span)
+    (carry old.settings (state_sight old) (state_sight new) (low (state_sight old) old.span.next) (low (state_sight old) old.span.next) q g h (omega arith) (λ _. leaves_keeps old new q l) l.time (λ lt. below_none old.settings (state_sight old) (low (state_sight old) old.span.next) q g h lt))
+
 pub leaves_timers : (old new : State) (m : Times) → Leaves old new → AreTimers old m → AreTimers new m
-leaves_timers old new m l h q =
-    timer_at old new (low (state_sight old) old.span.next) q (map.get m q) l.settings (same_low old new l.span)
-    (carry old.settings (state_sight old) (state_sight new) (low (state_sight old) old.span.next) (low (state_sight old) old.span.next) q (map.get m q) (h q) (omega arith) (λ _. leaves_keeps old new q l) l.time (λ lt. below_none old.settings (state_sight old) (low (state_sight old) old.span.next) q (map.get m q) (h q) lt))
+leaves_timers old new m l h q = leaves_timer old new q (map.get m q) l (h q)
+
+leaves_below : (old new : State) (n : ℕ) (m : Times) → Leaves old new → AreTimersBelow old n m
+    → AreTimersBelow new n m
+leaves_below old new n m l h =
+    record {
+      requests = ap (λ (s : Settings). s.rtx) l.settings ∙ h.requests;
+      right = λ q lt. leaves_timer old new q (map.get m q) l (h.right q lt);
+      above = λ q e. omega (arith, h.above q e, same_low old new l.span);
+      below = λ q e. omega (arith, h.below q e, ap (λ (y : Span). unwrap_or y.top 0) l.span);
+      missing = λ q e. ap (λ (m : map.FinMap nat_cmp Held). is_some (map.get m q)) l.held
+          ∙ h.missing q e;
+    }
 
 pub leaves_timed : (old new : State) (x : Schedule) → Leaves old new → IsTimed old x → IsTimed new x
-leaves_timed old new x l t = record { room = t.room; right = λ e. leaves_timers old new x.timers.times l (t.right e) }
+leaves_timed old new x l t =
+    record {
+      room = t.room;
+      right = λ e. leaves_timers old new x.timers.times l (t.right e);
+      below = λ n e some. leaves_below old new n x.timers.times l (t.below n e some);
+    }
 
 pub passed_timed : (s : State) (x : Schedule) (t : ℕ) → IsTimed s x → IsTimed (passed s t) x
 passed_timed s x t h = leaves_timed s (passed s t) x (record { settings = refl; span = refl; held = refl; heights = refl; peaks = refl; served = refl; latency = refl; ended = refl; time = omega arith }) h
@@ -148,11 +170,17 @@ off_timed old new x same off h =
           (timer_off old.settings (state_sight old) (state_sight new)
           (low (state_sight old) old.span.next) (low (state_sight new) new.span.next) q
           (map.get x.timers.times q) off (h.right fresh q));
+      below = λ n e some. (let on = (h.below n e some).requests in absurd cc);
     }
 
 -- stale timers need only have their room
-pub stale_timed : (s : State) (x : Schedule) → x.timers.room ≡ 16384 → x.stale ≡ true → IsTimed s x
-stale_timed s x room e = record { room = room; right = λ f. (let bad : true ≡ false = sym e ∙ f in cc) }
+pub stale_timed : (s : State) (x : Schedule) → x.timers.room ≡ 16384 → x.stale_from ≡ Some 0 → IsTimed s x
+stale_timed s x room e =
+    record {
+      room = room;
+      right = λ f. absurd cc;
+      below = λ n f some. (let zero : 0 ≡ n = cc in absurd (omega arith));
+    }
 
 -- ---- a packet is given out
 
@@ -369,6 +397,10 @@ output_timers replies searches old new Flushing m b is none d h l = leaves_timer
 pub turn_without : (s : State) (r : Turn) (wake : Option ℕ) → s.progress.flushing ≡ false → state_asked s ≡ None → wake ≡ state_wake s → r ≡ output_turn (state_sight s) s.span.next wake → r ≡ state_turn s
 turn_without s r wake f none w is = is ∙ ap (λ (x : Option ℕ). output_turn (state_sight s) s.span.next x) w ∙ sym (rw (f, none) refl)
 
-pub output_timed : RepliesTell → SearchesFindTheLeast → (old new : State) (r : Turn) (x : Schedule) → IsBounded old → r ≡ state_turn old → state_asked old ≡ None → TurnDoes old r new → x.timers.room ≡ 16384 → AreTimers old x.timers.times → AreLater old.progress.time x.timers.times → IsTimed new x
-output_timed replies searches old new r x b is none d room h l =
-    record { room = room; right = λ _. output_timers replies searches old new r x.timers.times b is none d h l }
+pub output_timed : RepliesTell → SearchesFindTheLeast → (old new : State) (r : Turn) (x : Schedule) → IsBounded old → r ≡ state_turn old → state_asked old ≡ None → TurnDoes old r new → x.timers.room ≡ 16384 → AreTimers old x.timers.times → AreLater old.progress.time x.timers.times → x.stale_from ≡ None → IsTimed new x
+output_timed replies searches old new r x b is none d room h l fresh =
+    record {
+      room = room;
+      right = λ _. output_timers replies searches old new r x.timers.times b is none d h l;
+      below = λ n e _. absurd cc;
+    }

@@ -111,10 +111,10 @@ sets_gaps s v n le =
 
 -- ---- a map has no more keys than pass a test
 
-no_keys : (m : Times) → ((q : ℕ) → map.get m q ≡ None) → map.len m ≡ 0
+pub no_keys : (m : Times) → ((q : ℕ) → map.get m q ≡ None) → map.len m ≡ 0
 no_keys m none = ap (λ (x : Times). map.len x) (map.same_map nat_cmp_total map.nat_cmp-IsAntisymmetric m map.empty (λ q. none q ∙ sym (map.get-empty nat_cmp q))) ∙ map.len-empty nat_cmp ℕ
 
-none_of : (o : Option ℕ) → (IsSome o → ⊥) → o ≡ None
+pub none_of : (o : Option ℕ) → (IsSome o → ⊥) → o ≡ None
 none_of None f = refl
 none_of (Some x) f = absurd (f refl)
 
@@ -126,14 +126,14 @@ other_by : (o : Option ℕ) (b : Bool) (q n : ℕ) → (q == n) ≡ b → IsSome
 other_by o true q n e h = cc
 other_by o false q n e h = (grind (arith, common_steps), h)
 
-len_one : (m : Times) (n : ℕ) → map.len m ≤ (if is_some (map.get m n) then 1 else 0) + map.len (map.remove m n)
+pub len_one : (m : Times) (n : ℕ) → map.len m ≤ (if is_some (map.get m n) then 1 else 0) + map.len (map.remove m n)
 len_one m n = one_by (is_some (map.get m n)) (map.len m) (map.len (map.remove m n)) (map.len-remove nat_cmp_total m n)
 
 -- the entries lie in a range, and each has a request to come
 pub record AreWithin (s : Settings) (v : Sight) (m : Times) (n count : ℕ) : Type 0 where
   pub fact : (q : ℕ) → IsSome (map.get m q) → (n ≤ q) × (q < n + count) × (is_some (pending s v q) ≡ true)
 
-get_other : (m : Times) (n q : ℕ) → IsSome (map.get (map.remove m n) q) → (q ≢ n) × IsSome (map.get m q)
+pub get_other : (m : Times) (n q : ℕ) → IsSome (map.get (map.remove m n) q) → (q ≢ n) × IsSome (map.get m q)
 get_other m n q e =
     let is : map.get (map.remove m n) q ≡ (if q == n then None else map.get m q) = map.get-remove nat_cmp_total m n q ∙ ap (λ (b : Bool). if b then None else map.get m q) (unsigned_tied q n) in
     other_by (map.get m q) (q == n) q n refl (subst (λ (o : Option ℕ). IsSome o) is e)
@@ -196,7 +196,7 @@ few_timers s m b h =
     record { fact = λ q e. let x : InRange s q = in_range s m q h e in (x.from, omega (arith, x.from, x.to), x.pends) } in
     omega (arith, len_within s.settings (state_sight s) m (low (state_sight s) s.span.next) (unwrap_or s.span.top 0 + 2 - low (state_sight s) s.span.next) within, sets_gaps s.settings (state_sight s) (low (state_sight s) s.span.next) (low_top s b))
 
-missing_most : (among : ℕ → Bool) (n count : ℕ) → missing_from among n count ≤ count
+pub missing_most : (among : ℕ → Bool) (n count : ℕ) → missing_from among n count ≤ count
 missing_most among n zero = omega arith
 missing_most among n (suc count) = split (λ (x : ℕ). x + missing_from among (n + 1) count ≤ suc count) (among n) 0 1 (λ _. omega (arith, missing_most among (n + 1) count)) (λ _. omega (arith, missing_most among (n + 1) count))
 

@@ -1,5 +1,5 @@
 -- What a push does to a state.
-use Rattle.std.specs.Prelude.{ℕ, ◌+◌, ◌==◌, ◌&&◌, ◌≡◌, ◌++◌, unwrap_or, Bool, true, false, List, ◌∷◌, max, None, is_some, slice_index_or, if◌then◌else◌}
+use Rattle.std.specs.Prelude.{ℕ, ◌+◌, ◌-◌, nat_lt, Option, Some, ◌==◌, ◌&&◌, ◌≡◌, ◌++◌, unwrap_or, Bool, true, false, List, ◌∷◌, max, None, is_some, slice_index_or, if◌then◌else◌}
 use Rattle.std.specs.FinMap as map
 use Rattle.jitter_model.specs.declared.Arrival.{Arrival}
 use Rattle.jitter_model.specs.declared.Pushed.{Pushed}
@@ -68,6 +68,19 @@ SegmentAfter old a v new = LeavesSegment old new
 -- whether the packet is an original one above the greatest number, which is the latest height
 abbrev pub follows_top : State → Arrival → Bool
 follows_top s a = is_original a.origin && is_some s.span.top && state_number s a == unwrap_or s.span.top 0 + 1 && is_next_mark s.heights (unwrap_or s.span.top 0 + 1)
+
+-- whether the packet is an original one that leaves a gap above the greatest number, which is the
+-- latest height
+abbrev pub leaves_gap : State → Arrival → Bool
+leaves_gap s a =
+    is_original a.origin && is_some s.span.top
+    && nat_lt (unwrap_or s.span.top 0 + 1) (state_number s a)
+    && is_next_mark s.heights (unwrap_or s.span.top 0 + 1)
+
+-- from which number on the timers change with a packet that leaves a gap
+abbrev pub stale_after : State → Arrival → Option ℕ
+stale_after s a =
+    if leaves_gap s a then Some (unwrap_or s.span.top 0 - s.settings.reorder) else None
 
 -- whether a push with this verdict changes what is accepted
 abbrev pub takes : Verdict → Bool

@@ -70,10 +70,21 @@ pub record CanFill (s : State) (number : ℕ) (m : Times) : Type 0 where
   pub others : (n : ℕ) → n ≢ number
       → IsTimer s.settings (state_sight s) (low (state_sight s) s.span.next) n (map.get m n)
 
--- the timers have room, and are right unless they are stale
+-- the timers of the numbers below this one are right, and each timer is of a missing number from
+-- the lowest to the greatest
+pub record AreTimersBelow (s : State) (from : ℕ) (m : Times) : Type 0 where
+  pub requests : s.settings.rtx ≡ true
+  pub right : (n : ℕ) → n < from
+      → IsTimer s.settings (state_sight s) (low (state_sight s) s.span.next) n (map.get m n)
+  pub above : (n : ℕ) → IsSome (map.get m n) → low (state_sight s) s.span.next ≤ n
+  pub below : (n : ℕ) → IsSome (map.get m n) → n < unwrap_or s.span.top 0
+  pub missing : (n : ℕ) → IsSome (map.get m n) → is_some (map.get s.held n) ≡ false
+
+-- the timers have room, and are right but for those from the number on from which they are stale
 pub record IsTimed (s : State) (x : Schedule) : Type 0 where
   pub room : x.timers.room ≡ 16384
-  pub right : x.stale ≡ false → AreTimers s x.timers.times
+  pub right : x.stale_from ≡ None → AreTimers s x.timers.times
+  pub below : (n : ℕ) → x.stale_from ≡ Some n → 0 < n → AreTimersBelow s n x.timers.times
 
 -- all timers lie after a time
 abbrev pub AreLater : ℕ → Times → Type 0

@@ -177,7 +177,7 @@ impl Buffer {
         runs_are_bounded();
         replies_tell();
         numbers_lie_between();
-        self.schedule.stale = true;
+        self.schedule.stale_from = Some(0);
         start_flush(&mut self.state)
     }
 
@@ -200,7 +200,7 @@ impl Buffer {
         ensures stands { (h : History) → Stands self.old h → Stands self.new (Latency ns ∷ h) }
     {
         delay(&mut self.state, ns);
-        self.schedule.stale = true;
+        self.schedule.stale_from = Some(0);
     }
 
     /// The presentation time of the RTP timestamp of a sender report (RFC 3550, section 6.4.1), with the
@@ -229,7 +229,7 @@ impl Buffer {
         // A law for the proof; the call does nothing.
         runs_are_bounded();
         end_pusher(&mut self.state, pusher);
-        self.schedule.stale = true;
+        self.schedule.stale_from = Some(0);
     }
 
     /// Whether all pushers ended.

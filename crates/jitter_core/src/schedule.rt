@@ -7,7 +7,7 @@ ghost use Rattle.jitter_model.specs.Turns.{low as low_of};
 ghost use Rattle.jitter_core.specs.Steps.{IsBounded};
 ghost use Rattle.jitter_core.specs.Requesting.{asked_of};
 ghost use Rattle.jitter_core.specs.Scheduling.{pending, with_timer, IsTimed, AreTimers};
-ghost use Rattle.jitter_core.specs.Scheduling.{AreTimersBut, CanFill, AreInRange, AreLater};
+ghost use Rattle.jitter_core.specs.Scheduling.{AreTimersBelow, AreTimersBut, CanFill, AreInRange, AreLater};
 ghost use Rattle.jitter_core.specs.Scheduling.{state_gaps};
 ghost use Rattle.jitter_core.specs.Turning.{have_ended, state_sight, state_asked, state_wake, Serves};
 
@@ -27,20 +27,46 @@ const ROOM: usize = 16_384;
 #[derive(Drop)]
 pub struct Schedule {
     pub timers: TimerQueue,
-    /// Whether the timers may differ from the requests.
-    pub stale: bool,
+    /// From which number on the timers may differ from the requests, if any may; all may where it is 0.
+    pub stale_from: Option<u64>,
 }
 
 impl Schedule {
     /// No timers.
     pub fn new(alloc: Global) -> Result<Schedule, OutOfMemory>
         ensures timers { IfOk result (λ x. x.timers ≡ queue 16384 map.empty []) }
-        ensures stale { IfOk result (λ x. x.stale ≡ true) }
+        ensures stale { IfOk result (λ x. x.stale_from ≡ Some 0) }
     {
         Ok(Schedule {
             timers: TimerQueue::with_capacity(alloc, ROOM)?,
-            stale: true,
+            stale_from: Some(0),
         })
+    }
+}
+
+/// Sets the timers of the numbers from `from` on anew.
+fn schedule_from<L: Ledger>(
+    state: &State,
+    timers: &mut TimerQueue,
+    from: u64,
+    ended: bool,
+    steps: &mut Steps<L>,
+)
+    requires bounded { IsBounded state.now }
+    requires ended { ended ≡ have_ended state.now.settings.pushers state.now.progress.ended }
+    requires room { timers.old.room ≡ 16384 }
+    requires below { AreTimersBelow state.now from timers.old.times }
+    ensures room { timers.new.room ≡ 16384 }
+    ensures right { AreTimers state.now timers.new.times }
+    ensures quick { steps.new ≤ steps.old + 14 * (state_gaps state.now + 2) }
+{
+    let start = lowest(state).max(from);
+    let mut number = state.span.top.unwrap_or(0) + 2;
+    while start < number {
+        number -= 1;
+        if !state.held.has(number) {
+            reschedule(state, timers, number, ended, steps);
+        }
     }
 }
 
@@ -56,36 +82,33 @@ fn schedule_all<L: Ledger>(
     requires room { timers.old.room ≡ 16384 }
     ensures room { timers.new.room ≡ 16384 }
     ensures right { AreTimers state.now timers.new.times }
-    ensures quick { steps.new ≤ steps.old + 14 * (state_gaps state.now + 1) }
+    ensures quick { steps.new ≤ steps.old + 14 * (state_gaps state.now + 2) }
 {
     timers.clear();
-    if !state.settings.rtx {
-        return;
-    }
-    let low = lowest(state);
-    let mut number = state.span.top.unwrap_or(0) + 2;
-    while low < number {
-        number -= 1;
-        if let Some(time) = pending_time(state, number, ended) {
-            timers.set(number, time, steps);
-        }
+    if state.settings.rtx {
+        schedule_from(state, timers, 0, ended, steps);
     }
 }
 
-/// Sets all timers anew where they are stale, and else none.
+/// Sets the timers anew that are stale.
 pub fn refresh<L: Ledger>(state: &State, schedule: &mut Schedule, ended: bool, steps: &mut Steps<L>)
     requires bounded { IsBounded state.now }
     requires ended { ended ≡ have_ended state.now.settings.pushers state.now.progress.ended }
     requires timed { IsTimed state.now schedule.old }
     ensures room { schedule.new.timers.room ≡ 16384 }
     ensures right { AreTimers state.now schedule.new.timers.times }
-    ensures stale { schedule.new.stale ≡ false }
-    ensures quick { steps.new ≤ steps.old + 14 * (state_gaps state.now + 1) }
-    ensures none { schedule.old.stale ≡ false → steps.new ≡ steps.old }
+    ensures stale { schedule.new.stale_from ≡ None }
+    ensures quick { steps.new ≤ steps.old + 14 * (state_gaps state.now + 2) }
+    ensures none { schedule.old.stale_from ≡ None → steps.new ≡ steps.old }
 {
-    if schedule.stale {
+    let Some(from) = schedule.stale_from else {
+        return;
+    };
+    schedule.stale_from = None;
+    if from == 0 {
         schedule_all(state, &mut schedule.timers, ended, steps);
-        schedule.stale = false;
+    } else {
+        schedule_from(state, &mut schedule.timers, from, ended, steps);
     }
 }
 

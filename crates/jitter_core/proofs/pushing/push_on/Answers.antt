@@ -2,6 +2,7 @@ use Rattle.std.proofs.Common.{◌∷◌, ◌∙◌, sym, arith}
 use Rattle.jitter_model.specs.declared.Entry.TheVariants.{Push}
 use Rattle.jitter_core.proofs.Filling.{can_fill}
 use Rattle.jitter_core.proofs.Following.{is_next, next_top, next_from, next_range, next_timers}
+use Rattle.jitter_core.proofs.Leaping.{gap_below}
 use Rattle.jitter_core.proofs.Passing.{pusher_small}
 use Rattle.jitter_core.proofs.Pushes.{push_keeps}
 use Rattle.jitter_core.proofs.Reached.{reached_after, reached_bounded, reached_list, reached_run, reached_pushers}
@@ -34,6 +35,9 @@ returns-then-not-state-clause-timed g c =
 
 pub is_in_order-in_order-requires : goal.is_in_order-in_order-requires
 is_in_order-in_order-requires g c = reached_bounded c.runs_are_bounded.ensures c.replies_tell.ensures c.numbers_lie_between.ensures c.args.state.now c.requires.reached
+
+pub gap_from-gap-requires : goal.gap_from-gap-requires
+gap_from-gap-requires g c = reached_bounded c.args.state.now c.requires.reached
 
 pub push_packet-pushed-requires-clause-bounded : goal.push_packet-pushed-requires-clause-bounded
 push_packet-pushed-requires-clause-bounded g c = reached_bounded c.runs_are_bounded.ensures c.replies_tell.ensures c.numbers_lie_between.ensures c.args.state.now c.requires.reached
@@ -76,3 +80,10 @@ retime-requires-clause-fills g c = λ e v fresh.
     c.args.schedule.now.timers.times
     (reached_bounded c.runs_are_bounded.ensures c.replies_tell.ensures c.numbers_lie_between.ensures c.args.state.now c.requires.reached) c.push_packet-pushed.ensures v e
     (c.requires.timed.right fresh)
+
+pub retime-requires-clause-gap : goal.retime-requires-clause-gap
+retime-requires-clause-gap g c = λ n is v fresh.
+    gap_below c.args.state.now c.push_packet-pushed.new.state c.args.a c.push_packet-pushed.result
+    c.args.schedule.now.timers.times c.gap_from-gap.result n
+    (reached_bounded c.args.state.now c.requires.reached) c.push_packet-pushed.ensures v
+    c.gap_from-gap.ensures is c.if-not-state.false (c.requires.timed.right fresh)
