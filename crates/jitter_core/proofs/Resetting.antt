@@ -8,7 +8,7 @@ use Rattle.std.specs.Ordering.{nat_cmp}
 use Rattle.jitter_timers.specs.Timers.{Timers, Times, HasRoom}
 use Rattle.jitter_model.specs.declared.Settings.{Settings}
 use Rattle.jitter_model.specs.Turns.{Sight, low}
-use Rattle.jitter_model.proofs.Chain.{split}
+use Rattle.jitter_core.proofs.Cases.{split}
 use Rattle.jitter_core.specs.declared.state.State.{State}
 use Rattle.jitter_core.specs.Steps.{IsBounded}
 use Rattle.jitter_core.specs.Scheduling.{pending, with_timer, IsTimer, AreTimers, AreTimersBelow}
