@@ -37,7 +37,7 @@ pub is_in_order-in_order-requires : goal.is_in_order-in_order-requires
 is_in_order-in_order-requires g c = reached_bounded c.runs_are_bounded.ensures c.replies_tell.ensures c.numbers_lie_between.ensures c.args.state.now c.requires.reached
 
 pub gap_from-gap-requires : goal.gap_from-gap-requires
-gap_from-gap-requires g c = reached_bounded c.args.state.now c.requires.reached
+gap_from-gap-requires g c = reached_bounded c.runs_are_bounded.ensures c.replies_tell.ensures c.numbers_lie_between.ensures c.args.state.now c.requires.reached
 
 pub push_packet-pushed-requires-clause-bounded : goal.push_packet-pushed-requires-clause-bounded
 push_packet-pushed-requires-clause-bounded g c = reached_bounded c.runs_are_bounded.ensures c.replies_tell.ensures c.numbers_lie_between.ensures c.args.state.now c.requires.reached
@@ -85,5 +85,5 @@ pub retime-requires-clause-gap : goal.retime-requires-clause-gap
 retime-requires-clause-gap g c = λ n is v fresh.
     gap_below c.args.state.now c.push_packet-pushed.new.state c.args.a c.push_packet-pushed.result
     c.args.schedule.now.timers.times c.gap_from-gap.result n
-    (reached_bounded c.args.state.now c.requires.reached) c.push_packet-pushed.ensures v
+    (reached_bounded c.runs_are_bounded.ensures c.replies_tell.ensures c.numbers_lie_between.ensures c.args.state.now c.requires.reached) c.push_packet-pushed.ensures v
     c.gap_from-gap.ensures is c.if-not-state.false (c.requires.timed.right fresh)
