@@ -1,50 +1,53 @@
 //! The text of a dump's lines.
-ghost use Rattle.std.specs.Prelude.{◌≡◌, ◌++◌, IfOk, Some, string_bytes};
+ghost use Rattle.std.specs.Prelude.{◌≡◌, ◌++◌, OnOk, Some, string_bytes};
 ghost use Rattle.std.specs.List.{flat_map};
 ghost use Rattle.log_text.specs.Dumped.{after_comma, bad_text, dump_text, dump_words, header_text, numbers_text, packet_text, ports_text, sizes_text};
 
 use crate::words::Spelled;
-use rtp_units::{Blob, OutOfMemory};
-use std::alloc::{AllocError, Global};
+use rtp_units::OutOfMemory;
+use std::alloc::AllocError;
 use std::fmt;
+use std::fmt::Write;
 use timeline::{BadPacket, DumpLine, Ports, RtpFacts};
 
-/// The bytes of a dump's line, its newline included.
-pub fn dump_line(alloc: Global, line: &DumpLine) -> Result<Blob, OutOfMemory>
-    ensures { IfOk result (λ text. text ≡ dump_text line.now) }
+// The text of a dump's line, its newline included, behind what is there.
+pub fn push_dump_line(text: &mut String, line: &DumpLine) -> Result<(), OutOfMemory>
+    ensures { OnOk result
+        (string_bytes text.new ≡ string_bytes text.old ++ dump_text line.now) }
 {
     let words = Dumped(line);
     if let DumpLine::Rtcp { types, .. } = line {
-        let types = joined(alloc, types.bytes())?;
-        let text = format!(in alloc; "{words} {types}\n")?;
-        return Ok(Blob::from_vec(text.into_bytes()));
+        write!(text, "{words} ")?;
+        push_numbers(text, types.bytes())?;
+        write!(text, "\n")?;
+        return Ok(());
     }
-    let text = format!(in alloc; "{words}\n")?;
-    Ok(Blob::from_vec(text.into_bytes()))
+    write!(text, "{words}\n")?;
+    Ok(())
 }
 
 // Numbers in decimal, joined by commas.
-fn joined(alloc: Global, numbers: &[u8]) -> Result<String, AllocError>
-    ensures { IfOk result (λ text. string_bytes text ≡ numbers_text numbers.now) }
+fn push_numbers(text: &mut String, numbers: &[u8]) -> Result<(), AllocError>
+    ensures { OnOk result
+        (string_bytes text.new ≡ string_bytes text.old ++ numbers_text numbers.now) }
 {
     match numbers {
-        [] => Ok(String::new(alloc)),
+        [] => Ok(()),
         [first, more @ ..] => {
-            let text = format!(in alloc; "{first}")?;
-            with_more(alloc, text, more)
+            write!(text, "{first}")?;
+            push_more(text, more)
         }
     }
 }
 
-fn with_more(alloc: Global, mut text: String, numbers: &[u8]) -> Result<String, AllocError>
-    ensures { IfOk result
-        (λ all. string_bytes all ≡ string_bytes text ++ flat_map after_comma numbers.now) }
+fn push_more(text: &mut String, numbers: &[u8]) -> Result<(), AllocError>
+    ensures { OnOk result (string_bytes text.new
+        ≡ string_bytes text.old ++ flat_map after_comma numbers.now) }
 {
     for number in numbers {
-        let piece = format!(in alloc; ",{number}")?;
-        text.push_str(piece.as_str())?;
+        write!(text, ",{number}")?;
     }
-    Ok(text)
+    Ok(())
 }
 
 // A line's words, without the types of a compound and the newline.
