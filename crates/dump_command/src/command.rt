@@ -7,7 +7,7 @@ ghost use Rattle.dump_command.specs.Dump.{dump_output};
 
 use crate::line::line_of;
 use command_core::{Command, Stop, print_piece, run_command};
-use log_text::dump_line;
+use log_text::LineText;
 use pcap_file::PcapRecord;
 use rtp_io::{Files, Sink};
 use rtp_units::OutOfMemory;
@@ -29,15 +29,18 @@ pub fn dump_open<F: Files, O: Sink>(alloc: Global, files: &mut F, out: &mut O) -
     let mut command = DumpCommand {
         records: 0,
         time: 0,
+        text: LineText::new(alloc),
     };
     run_command(alloc, files, &mut command, out)
 }
 
-// How many records were dumped, and the time of the last one in nanoseconds.
+// How many records were dumped, the time of the last one in nanoseconds, and the memory in which
+// lines become text.
 #[derive(Drop)]
 struct DumpCommand {
     records: u64,
     time: u64,
+    text: LineText,
 }
 
 impl Command for DumpCommand {
@@ -65,24 +68,24 @@ impl Command for DumpCommand {
             Ok(line) => line,
             Err(OutOfMemory) => return Err(Stop::Memory),
         };
-        print(alloc, &line, out)
+        print(&mut self.text, &line, out)
     }
 
-    fn finish<O: Sink>(&mut self, alloc: Global, out: &mut O) -> Result<(), Stop> {
+    fn finish<O: Sink>(&mut self, _alloc: Global, out: &mut O) -> Result<(), Stop> {
         let last = DumpLine::Done {
             records: self.records,
         };
-        print(alloc, &last, out)
+        print(&mut self.text, &last, out)
     }
 }
 
-fn print<O: Sink>(alloc: Global, line: &DumpLine, out: &mut O) -> Result<(), Stop>
+fn print<O: Sink>(text: &mut LineText, line: &DumpLine, out: &mut O) -> Result<(), Stop>
     requires { O.faults out.old < 2 ^ 64 - 1 }
     ensures { Prints (dump_text line.now) result
         (O.written out.old) (O.written out.new) (O.faults out.old) (O.faults out.new) }
 {
-    match dump_line(alloc, line) {
-        Ok(piece) => print_piece(out, piece.bytes()),
+    match text.set_dump_line(line) {
+        Ok(()) => print_piece(out, text.bytes()),
         Err(OutOfMemory) => Err(Stop::Memory),
     }
 }

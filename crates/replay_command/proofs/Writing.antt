@@ -66,16 +66,16 @@ log_one hex before line =
     flat_map-append (line_text hex) before (line ∷ [])
     ∙ ap (λ (l : List ℕ). flat_map (line_text hex) before ++ l) (append-nil (line_text hex line))
 
-pub log_renders : (hex : Bool) (line : BinLine) (result : Result (Unit {0}) Stop)
+pub log_renders : (hex : Bool) (before_text after_text : List ℕ) (line : BinLine) (result : Result (Unit {0}) Stop)
     (a b : Option (List ℕ)) (o o' : ℕ) → Prints (line_text hex line) result a b o o'
-    → Renders result (rendering.Log hex) (rendering.Log hex) (line ∷ []) a b
-log_renders hex line (Ok x) a b o o' prints = λ before start wrote. record {
+    → Renders result (rendering.Log hex before_text) (rendering.Log hex after_text) (line ∷ []) a b
+log_renders hex before_text after_text line (Ok x) a b o o' prints = λ before start wrote. record {
   given = tt;
   written = prints_write (text_by (style.Log hex) before) (line_text hex line)
       (text_by (style.Log hex) (before ++ line ∷ [])) (Ok x) start a b o o'
       (log_one hex before line) wrote.written prints;
 }
-log_renders hex line (Err why) a b o o' prints = λ before start wrote.
+log_renders hex before_text after_text line (Err why) a b o o' prints = λ before start wrote.
     prints_write (text_by (style.Log hex) before) (line_text hex line)
     (text_by (style.Log hex) (before ++ line ∷ [])) (Err why) start a b o o'
     (log_one hex before line) wrote.written prints

@@ -20,12 +20,12 @@ text_by (style.Log hex) lines = flat_map (line_text hex) lines
 text_by (style.Units format pt) lines = text_of format pt lines
 
 abbrev pub style_of : Rendering → Style
-style_of (rendering.Log hex) = style.Log hex
+style_of (rendering.Log hex text) = style.Log hex
 style_of (rendering.Units log) = style.Units log.format log.pt
 
 -- the lines that it was given
 abbrev pub WasGiven : Rendering → List BinLine → Type 0
-WasGiven (rendering.Log hex) lines = Unit {0}
+WasGiven (rendering.Log hex text) lines = Unit {0}
 WasGiven (rendering.Units log) lines = TookLines log log.format log.pt lines
 
 -- It was given these lines since the output had these bytes, and all that goes out for them was

@@ -8,7 +8,7 @@ ghost use Rattle.command_core.specs.Taken.{AddsMore};
 ghost use Rattle.replay_command.specs.Rendered.{Renders, RendersUnits, WasGiven, style_of};
 
 use command_core::{Stop, print_piece};
-use log_text::line as line_text;
+use log_text::LineText;
 use rtp_io::Sink;
 use rtp_units::OutOfMemory;
 use std::alloc::Global;
@@ -28,8 +28,9 @@ pub enum Style {
 /// A style, and what it keeps of the lines of a log, which it is given one after the other.
 #[derive(Drop)]
 pub enum Rendering {
-    /// Each line as it is, with the bytes of the packets that leave or without.
-    Log { hex: bool },
+    /// Each line as it is, with the bytes of the packets that leave or without, and the memory in
+    /// which lines become text.
+    Log { hex: bool, text: LineText },
     /// The media units of the packets that leave.
     Units(UnitLog),
 }
@@ -41,7 +42,10 @@ impl Rendering {
         ensures given { WasGiven result [] }
     {
         match style {
-            Style::Log { hex } => Rendering::Log { hex },
+            Style::Log { hex } => Rendering::Log {
+                hex,
+                text: LineText::new(alloc),
+            },
             Style::Units { format, pt } => Rendering::Units(UnitLog::new(alloc, format, pt)),
         }
     }
@@ -58,23 +62,28 @@ impl Rendering {
         ensures cause { HasWriteCause result (O.faults out.old) (O.faults out.new) }
     {
         match self {
-            Rendering::Log { hex } => print_line(alloc, line, *hex, out),
+            Rendering::Log { hex, text } => print_line(alloc, text, line, *hex, out),
             Rendering::Units(log) => print_units(alloc, log, line, out),
         }
     }
 }
 
 // Writes a line as it is.
-fn print_line<O: Sink>(alloc: Global, line: &BinLine, hex: bool, out: &mut O) -> Result<(), Stop>
+fn print_line<O: Sink>(
+    alloc: Global,
+    text: &mut LineText,
+    line: &BinLine,
+    hex: bool,
+    out: &mut O,
+) -> Result<(), Stop>
     requires { O.faults out.old < 2 ^ 64 - 1 }
     ensures { Prints (text_of_line hex line.now) result
         (O.written out.old) (O.written out.new) (O.faults out.old) (O.faults out.new) }
 {
-    let piece = match line_text(alloc, line, hex) {
-        Ok(piece) => piece,
-        Err(OutOfMemory) => return Err(Stop::Memory),
-    };
-    print_piece(out, piece.bytes())
+    match text.set_line(alloc, line, hex) {
+        Ok(()) => print_piece(out, text.bytes()),
+        Err(OutOfMemory) => Err(Stop::Memory),
+    }
 }
 
 // Writes the unit lines that a line of the log tells.

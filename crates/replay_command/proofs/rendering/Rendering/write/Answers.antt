@@ -8,10 +8,10 @@ use Rattle.replay_command.proofs.rendering.Rendering.write.Goals as goal
 
 pub returns-in-Log-clause-renders : goal.returns-in-Log-clause-renders
 returns-in-Log-clause-renders g c =
-    subst (λ (r : Rendering). Renders c.print_line.result r (rendering.Log c.in-Log.hex)
+    subst (λ (r : Rendering). Renders c.print_line.result r (rendering.Log c.in-Log.hex c.print_line.new.text)
     (c.args.line.now ∷ []) (g.O.Sink.written c.args.out.now)
     (g.O.Sink.written c.print_line.new.out)) (sym c.in-Log.is)
-    (log_renders c.in-Log.hex c.args.line.now c.print_line.result _ _ _ _ c.print_line.ensures)
+    (log_renders c.in-Log.hex c.in-Log.text c.print_line.new.text c.args.line.now c.print_line.result _ _ _ _ c.print_line.ensures)
 
 pub returns-in-Log-clause-more : goal.returns-in-Log-clause-more
 returns-in-Log-clause-more g c = prints_more _ c.print_line.result _ _ _ _ c.print_line.ensures
