@@ -21,7 +21,8 @@ use Rattle.sdp_profile.specs.Scripts.{described_script}
 use Rattle.sdp_command.specs.declared.failure.Failure.{Failure}
 use Rattle.sdp_command.specs.declared.failure.Failure.TheVariants.{Stopped, Description}
 use Rattle.sdp_command.specs.Failures.{as_failure}
-use Rattle.sdp_command.specs.Reading.{IsBeingRead, ReadsDescribed}
+use Rattle.command_core.specs.Inputs.{IsBeingRead}
+use Rattle.sdp_command.specs.Reading.{ReadsDescribed}
 use Rattle.command_core.specs.Output.{Output, output_of}
 use Rattle.replay_command.specs.Replay.{nothing_played}
 use Rattle.rtxsend_command.specs.Sent.{rtxsend_output, sent_part}
